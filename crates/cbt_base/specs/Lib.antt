@@ -1,0 +1,4 @@
+pub mod formers
+pub mod Keyed
+pub mod Lent
+pub mod MapLent

@@ -1,0 +1,13 @@
+//! What every layer stands on: lists, maps and texts that contracts see as plain data, identifiers,
+//! the clock rule, and the program's traits of the outside world.
+#![tactic(auto)]
+
+mod list;
+mod map;
+mod memory;
+mod text;
+
+pub use list::List;
+pub use map::Map;
+pub use memory::{Duplicate, NoMemory};
+pub use text::Text;
