@@ -2,3 +2,4 @@ pub mod formers
 pub mod Keyed
 pub mod Lent
 pub mod MapLent
+pub mod Ids

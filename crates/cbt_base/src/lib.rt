@@ -2,11 +2,15 @@
 //! the clock rule, and the program's traits of the outside world.
 #![tactic(auto)]
 
+mod doc_id;
+mod id;
 mod list;
 mod map;
 mod memory;
 mod text;
 
+pub use doc_id::{DocId, IdFault, MAX_ID_LEN};
+pub use id::{Id, atr_of};
 pub use list::List;
 pub use map::Map;
 pub use memory::{Duplicate, NoMemory};
