@@ -4,6 +4,7 @@
 
 mod doc_id;
 mod id;
+mod laws;
 mod list;
 mod map;
 mod memory;
@@ -11,6 +12,7 @@ mod text;
 
 pub use doc_id::{DocId, IdFault, MAX_ID_LEN};
 pub use id::{Id, atr_of};
+pub use laws::{get_after_insert, get_after_remove, identifiers_differ};
 pub use list::List;
 pub use map::Map;
 pub use memory::{Duplicate, NoMemory};
