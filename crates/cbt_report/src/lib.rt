@@ -1,0 +1,9 @@
+//! The texts of a run: the report on its history, its transactions and its documents.
+#![tactic(auto)]
+
+mod lines;
+mod outcomes;
+mod replay;
+mod report;
+
+pub use report::report_of;
