@@ -3,3 +3,4 @@ pub mod Keyed
 pub mod Lent
 pub mod MapLent
 pub mod Ids
+pub mod Clock

@@ -2,6 +2,7 @@
 //! the clock rule, and the program's traits of the outside world.
 #![tactic(auto)]
 
+mod clock;
 mod doc_id;
 mod id;
 mod laws;
@@ -17,3 +18,7 @@ pub use list::List;
 pub use map::Map;
 pub use memory::{Duplicate, NoMemory};
 pub use text::Text;
+pub use clock::{
+    Clock, Hlc, ListClock, StepClock, clock_leads_by_one, leading_reading_is_now, ms,
+    stamp_is_above_all_earlier,
+};
