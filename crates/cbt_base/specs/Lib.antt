@@ -4,3 +4,5 @@ pub mod Lent
 pub mod MapLent
 pub mod Ids
 pub mod Clock
+pub mod Causes
+pub mod Streams

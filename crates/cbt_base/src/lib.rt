@@ -9,6 +9,9 @@ mod laws;
 mod list;
 mod map;
 mod memory;
+mod sink;
+mod source;
+mod streams;
 mod text;
 
 pub use doc_id::{DocId, IdFault, MAX_ID_LEN};
@@ -22,3 +25,6 @@ pub use clock::{
     Clock, Hlc, ListClock, StepClock, clock_leads_by_one, leading_reading_is_now, ms,
     stamp_is_above_all_earlier,
 };
+pub use sink::{MemSink, Sink, StdSink, WriteFailed};
+pub use source::{MemSource, ReadFailed, Source, StdSource};
+pub use streams::{ReadFault, read_all, write_all};
