@@ -1,0 +1,6 @@
+//! Runs scripts of the transaction protocol.
+#![tactic(auto)]
+
+mod fields;
+
+fn main() {}
