@@ -1,8 +1,8 @@
 -- Histories of events, by place: what the node's state is after so many events, and what each was answered.
-use Rattle.std.specs.Prelude.{◌≡◌, ◌≢◌, ℕ, zero, suc, ◌+◌, Bool, true, false, ◌==◌, ◌&&◌, not, if◌then◌else◌, List, [], ◌∷◌, ◌++◌, length, reverse, slice_get, Option, Some, None}
+use Rattle.std.specs.Prelude.{◌≡◌, ◌≢◌, ℕ, zero, suc, Bool, true, false, ◌==◌, ◌&&◌, not, if◌then◌else◌, List, [], ◌∷◌, ◌++◌, length, reverse, slice_get, Option, Some, None}
 use Rattle.std.specs.Option.{option_map, option_to_list}
 use Rattle.cbt_base.specs.Clock.{clock_mutated, ms_of}
-use Rattle.cbt_model.specs.Table.{Row, Nothing, refused, row, changed}
+use Rattle.cbt_model.specs.Table.{Row, refused, row, changed}
 use Rattle.cbt_model.specs.declared.events.Event.{Event}
 use Rattle.cbt_model.specs.declared.events.Fate.{Fate}
 use Rattle.cbt_model.specs.declared.events.Fate.TheVariants.{Plain, Lost, Late}

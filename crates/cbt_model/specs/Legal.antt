@@ -1,5 +1,5 @@
 -- Which histories a run may have: fates by the faults, readings by the clock line and the marks, and steps that fit.
-use Rattle.std.specs.Prelude.{◌≡◌, ℕ, zero, suc, ◌+◌, ◌*◌, ◌<◌, ◌≤◌, Bool, true, ◌==◌, nat_le, if◌then◌else◌, List, [], ◌∷◌, ◌++◌, slice_get, Option, Some, None}
+use Rattle.std.specs.Prelude.{◌≡◌, ℕ, zero, suc, ◌+◌, ◌*◌, ◌<◌, ◌≤◌, true, ◌==◌, nat_le, if◌then◌else◌, List, [], ◌∷◌, ◌++◌, slice_get, Option, Some, None}
 use Rattle.cbt_base.specs.Clock.{held}
 use Rattle.cbt_model.specs.Faults.{fate_of}
 use Rattle.cbt_model.specs.Fitting.{step_fits}

@@ -1,6 +1,6 @@
 -- The step table: what each step answers, and what it changes, by what stands at the keys that it names.
-use Rattle.std.specs.Prelude.{◌≡◌, ℕ, Bool, true, false, ◌==◌, ◌||◌, not, if◌then◌else◌, List, [], ◌∷◌, Option, Some, None, fold}
-use Rattle.std.specs.List.{filter_map, list_any}
+use Rattle.std.specs.Prelude.{ℕ, Bool, true, false, ◌==◌, not, if◌then◌else◌, List, [], ◌∷◌, Option, Some, None}
+use Rattle.std.specs.List.{filter_map}
 use Rattle.cbt_base.specs.Clock.{clock_read, clock_mutated}
 use Rattle.cbt_base.specs.Keyed.{with_pair, without_key}
 use Rattle.cbt_json.specs.declared.Json.{Json}
