@@ -1,14 +1,10 @@
 -- What stands at a key after a change.
-use Rattle.std.proofs.Common.{◌≡◌, ◌≢◌, ℕ, Bool, true, false, cond, nat_eq, if◌then◌else◌, ⊎_elim, List, [], ◌∷◌, Some, None, ap, ◌∙◌}
+use Rattle.std.proofs.Common.{◌≡◌, ◌≢◌, true, false, cond, ⊎_elim, List, Some, None, ap, ◌∙◌}
 use Rattle.std.specs.declared.cmp.Ordering.{Ordering}
 use Rattle.std.specs.Ordering.{is_eq}
 use Rattle.cbt_base.specs.Keyed.{at_key, with_pair, without_key, Rises}
-use Rattle.cbt_base.proofs.Maps.{at_key-with_pair, at_key-without_key, rises-without_key}
-use Rattle.cbt_model.specs.Keys.{doc_cmp, entry_cmp, id_cmp}
-use Rattle.cbt_model.specs.Table.{without_gone}
-use Rattle.cbt_model.specs.declared.entries.ClientRow.{ClientRow}
-use Rattle.cbt_model.specs.declared.states.State.{State}
-use Rattle.cbt_model.proofs.Orders.{IsKeyOrder, id_order, key_itself, key_cases}
+use Rattle.cbt_base.proofs.Maps.{at_key-with_pair, at_key-without_key}
+use Rattle.cbt_model.proofs.Orders.{IsKeyOrder, key_itself, key_cases}
 
 module _ {K V : Type 0} {cmp : K → K → Ordering} (order : IsKeyOrder cmp) (m : List (K × V)) where
   pub set_there : (k : K) (v : V) → at_key cmp (with_pair cmp m k v) k ≡ Some v
@@ -26,17 +22,3 @@ module _ {K V : Type 0} {cmp : K → K → Ordering} (order : IsKeyOrder cmp) (m
 
   pub gone_elsewhere : (k q : K) → Rises cmp m → q ≢ k → at_key cmp (without_key cmp m k) q ≡ at_key cmp m q
   gone_elsewhere k q rises apart = at_key-without_key cmp order.total m k q rises ∙ ap (λ b. cond b None (at_key cmp m q)) (differs k q apart)
-
--- the keys of a state's maps rise
-pub record IsOrdered (s : State) : Type 0 where
-  pub docs : Rises doc_cmp s.docs
-  pub entries : Rises entry_cmp s.entries
-  pub clients : Rises id_cmp s.clients
-
-rises-without_gone : (me : ℕ) (gone : List ℕ) (rows : List (ℕ × ClientRow)) → Rises id_cmp rows → Rises id_cmp (without_gone me gone rows)
-rises-without_gone me [] rows rises = rises
-rises-without_gone me (id ∷ gone) rows rises = rises-without_gone me gone (if nat_eq id me then rows else without_key id_cmp rows id) (step (nat_eq id me))
-  where
-    step : (b : Bool) → Rises id_cmp (cond b rows (without_key id_cmp rows id))
-    step true = rises
-    step false = rises-without_key id_cmp id_order.total rows id rises

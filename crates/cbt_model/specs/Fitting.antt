@@ -1,10 +1,13 @@
 -- Which steps may be sent, and which replies may come back: a reply's kind stands in its step's row of the table.
-use Rattle.std.specs.Prelude.{ℕ, Bool, true, false, ◌&&◌, nat_lt, nat_le, List, [], ◌∷◌, length, Option, Some, None}
+use Rattle.std.specs.Prelude.{◌≡◌, ℕ, Bool, true, false, ◌&&◌, nat_lt, nat_le, List, [], ◌∷◌, length, Option, Some, None}
 use Rattle.cbt_json.specs.Body.{body_fits_of}
 use Rattle.cbt_json.specs.declared.Json.{Json}
+use Rattle.cbt_model.specs.Keys.{doc_at}
+use Rattle.cbt_model.specs.declared.documents.DocState.{DocState}
 use Rattle.cbt_model.specs.declared.documents.OpKind.{OpKind}
 use Rattle.cbt_model.specs.declared.documents.OpKind.TheVariants.{Insert, Replace, Remove}
 use Rattle.cbt_model.specs.declared.documents.Stage.{Stage}
+use Rattle.cbt_model.specs.declared.states.State.{State}
 use Rattle.cbt_model.specs.declared.steps.Expect.{Expect}
 use Rattle.cbt_model.specs.declared.steps.Expect.TheVariants as expect
 use Rattle.cbt_model.specs.declared.steps.Reply.{Reply}
@@ -139,3 +142,14 @@ fits (step.DropEntry atr attempt guarded) r = fits_drop_entry guarded r
 fits (step.ReadAtr atr) r = fits_read_atr r
 fits step.ReadClients r = fits_read_clients r
 fits (step.Beat me expires num_atrs gone) r = fits_beat r
+
+abbrev pub doc_fits : DocState → Bool
+doc_fits d = body_fits_maybe d.body && stage_fits_maybe d.stage
+
+-- each body and staged content of a state is a fit body, and a staged content is missing exactly for a remove
+pub record HasFitBodies (s : State) : Type 0 where
+  pub each : (doc : List ℕ) (d : DocState) → doc_at s doc ≡ Some d → doc_fits d ≡ true
+
+-- each attribute object of a state is a fit body
+pub record HasFitAttributes (s : State) : Type 0 where
+  pub each : (doc : List ℕ) (d : DocState) → doc_at s doc ≡ Some d → body_fits_of d.attrs ≡ true

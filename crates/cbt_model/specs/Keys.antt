@@ -3,7 +3,7 @@ use Rattle.std.specs.Prelude.{ℕ, List, Option}
 use Rattle.std.specs.declared.cmp.Ordering.{Ordering}
 use Rattle.std.specs.Ordering.{nat_cmp, ordering_then}
 use Rattle.std.specs.Cmp.Lexicographic.{slice_cmp}
-use Rattle.cbt_base.specs.Keyed.{at_key}
+use Rattle.cbt_base.specs.Keyed.{at_key, Rises}
 use Rattle.cbt_model.specs.declared.documents.DocState.{DocState}
 use Rattle.cbt_model.specs.declared.entries.ClientRow.{ClientRow}
 use Rattle.cbt_model.specs.declared.entries.Entry.{Entry}
@@ -32,3 +32,9 @@ entry_at s key = at_key entry_cmp s.entries key
 -- the row of this cleaner in the client record
 abbrev pub row_at : State → ℕ → Option ClientRow
 row_at s id = at_key id_cmp s.clients id
+
+-- the keys of a state's maps rise
+pub record IsOrdered (s : State) : Type 0 where
+  pub docs : Rises doc_cmp s.docs
+  pub entries : Rises entry_cmp s.entries
+  pub clients : Rises id_cmp s.clients

@@ -1,8 +1,9 @@
 //! The step table: what a node does at each step, and what it answers.
-ghost use Rattle.std.specs.Prelude.{◌≡◌, ◌+◌, ◌-◌, ◌^◌, ◌<◌, ◌≤◌, ◌++◌, max, drop, IfOk, OnErr};
+ghost use Rattle.std.specs.Prelude.{◌≡◌, ◌+◌, ◌-◌, ◌^◌, ◌<◌, ◌≤◌, ◌++◌, max, IfOk, OnErr, IsTrue};
 ghost use Rattle.cbt_base.specs.Clock.{clock_read, clock_mutated};
 ghost use Rattle.cbt_base.specs.Keyed.{with_pair};
-ghost use Rattle.cbt_model.specs.Keys.{entry_at, id_cmp};
+ghost use Rattle.cbt_model.specs.Fitting.{fits, step_fits, HasFitBodies};
+ghost use Rattle.cbt_model.specs.Keys.{IsOrdered, entry_at, id_cmp};
 ghost use Rattle.cbt_model.specs.Table.{SetsDoc, SetsEntry, DropsEntry, SetsClients, refused, takes, made, apply_to, decide_row, entries_of, without_gone};
 
 use crate::attributes::{kept_attributes, no_attributes};
@@ -20,6 +21,28 @@ use std::alloc::Global;
 pub fn apply(alloc: Global, state: &mut State, reading: u64, step: &Step) -> Result<Reply, NoMemory>
     requires { state.old.last < 2 ^ 64 - 65537 }
     ensures table { IfOk result (λ reply. (state.new, reply) ≡ apply_to state.old reading step.now) }
+    ensures refused { OnErr result (state.new ≡ state.old) }
+    ensures clock { state.new.last ≤ max (state.old.last + 1) (2 ^ 63) }
+    ensures fits { HasFitBodies state.old → IfOk result (λ reply. IsTrue (fits step.now reply)) }
+    ensures bodies { HasFitBodies state.old → IsTrue (step_fits step.now) → HasFitBodies state.new }
+{
+    have_rising_keys(state);
+    take_step(alloc, state, reading, step)
+}
+
+// The keys of a state's maps rise, as their types have it.
+fn have_rising_keys(state: &State)
+    ensures { IsOrdered state.now }
+{
+    let _docs = state.docs.len();
+    let _entries = state.entries.len();
+    let _clients = state.clients.len();
+}
+
+// Makes a step by its row of the table.
+fn take_step(alloc: Global, state: &mut State, reading: u64, step: &Step) -> Result<Reply, NoMemory>
+    requires { state.old.last < 2 ^ 64 - 65537 }
+    ensures row { IfOk result (λ reply. (state.new, reply) ≡ apply_to state.old reading step.now) }
     ensures refused { OnErr result (state.new ≡ state.old) }
     ensures clock { state.new.last ≤ max (state.old.last + 1) (2 ^ 63) }
 {
