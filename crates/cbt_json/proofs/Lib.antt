@@ -1,1 +1,7 @@
 pub mod Views
+pub mod Numbers
+pub mod Tokens
+pub mod Values
+pub mod Proper
+pub mod Inverse
+pub mod Again

@@ -1,6 +1,7 @@
 -- What a tree stands for: serde_json's data, and the text and the levels of that.
 use Rattle.std.specs.Prelude.{ℕ, ℤ, pos, negsuc, List, [], ◌∷◌, map}
-use Rattle.serde_json.specs.Data.{Num, unsigned, negative, float, Data, null, boolean, number, string, array, object, Items, no_items, item, Members, no_members, member, depth}
+use Rattle.serde_json.specs.Data.{Num, unsigned, negative, float, Data, null, boolean, number, string, array, object, Items, Members, no_members, member, depth}
+use Rattle.serde_json.specs.View.{items_of}
 use Rattle.serde_json.specs.Written.{compact_text}
 use Rattle.cbt_json.specs.declared.tree.Tree.{Tree, fold-Tree}
 use Rattle.cbt_json.specs.declared.tree.Tree.TheOpen.{Tree-F}
@@ -9,11 +10,6 @@ use Rattle.cbt_json.specs.declared.tree.Tree.TheOpen.{Tree-F}
 abbrev pub number_of_whole : ℤ → Num
 number_of_whole (pos n) = unsigned n
 number_of_whole (negsuc n) = negative (negsuc n)
-
--- the items of a list
-abbrev pub items_of : List Data → Items
-items_of [] = no_items
-items_of (d ∷ ds) = item d (items_of ds)
 
 -- the members of an object, each a name and a value
 abbrev pub members_of : List (List ℕ × Data) → Members

@@ -2,11 +2,14 @@
 //! rise by bytes.
 #![tactic(auto)]
 
+mod fault;
 mod fit;
 mod printing;
+mod reading;
 mod rules;
 mod tree;
 mod value;
 
+pub use fault::JsonFault;
 pub use tree::Tree;
 pub use value::Json;

@@ -1,12 +1,24 @@
-ghost use Rattle.std.specs.Prelude.{◌≡◌, ◌++◌, OnOk};
+ghost use Rattle.std.specs.Prelude.{◌≡◌, ◌++◌, IfOk, OnOk};
+ghost use Rattle.cbt_json.specs.Trees.{text_of};
 ghost use Rattle.cbt_json.specs.Tokens.{tree_tokens, list_tokens, object_tokens};
 
 use crate::tree::Tree;
 use cbt_base::{NoMemory, Text};
 use json::Writer;
+use std::alloc::Global;
+
+/// The compact text of a tree.
+pub(crate) fn print(alloc: Global, tree: &Tree) -> Result<Text, NoMemory>
+    ensures { IfOk result (λ text. text ≡ text_of tree.now) }
+{
+    let mut out = Writer::new(Vec::new(alloc));
+    write_tree(tree, &mut out)?;
+    let bytes = out.into_inner();
+    Ok(Text::from_string(String::from_utf8(bytes).unwrap()))
+}
 
 #[cycle(write)]
-pub(crate) fn write_tree(tree: &Tree, out: &mut Writer) -> Result<(), NoMemory>
+fn write_tree(tree: &Tree, out: &mut Writer) -> Result<(), NoMemory>
     ensures ok { OnOk result (out.new.tokens ≡ out.old.tokens ++ tree_tokens tree.now) }
     ensures before { out.new.before ≡ out.old.before }
 {

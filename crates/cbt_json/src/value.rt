@@ -1,14 +1,23 @@
-ghost use Rattle.std.specs.Prelude.{◌≡◌, IfOk, IfSome, IfNone};
-ghost use Rattle.cbt_json.specs.Rules.{IsJson};
+ghost use Rattle.std.specs.Prelude.{◌≡◌, ◌↔◌, IsTrue, IfOk, IfSome, IfNone};
+ghost use Rattle.cbt_json.specs.Trees.{text_of};
+ghost use Rattle.cbt_json.specs.Rules.{IsJson, BodyFits};
 
+use crate::fit::room_after;
+use crate::printing::print;
 use crate::rules::{has_levels_within, is_regular_tree};
 use crate::tree::Tree;
-use cbt_base::{Duplicate, NoMemory};
+use cbt_base::{Duplicate, NoMemory, Text};
 use std::alloc::Global;
 use std::marker::Model;
 
 /// How many levels of lists and objects a value may have.
 const MAX_LEVELS: u32 = 127;
+
+/// How many bytes the text of a body may have.
+const MAX_BODY_BYTES: usize = 4096;
+
+/// How many levels a body may have.
+const MAX_BODY_LEVELS: u32 = 100;
 
 /// A JSON value: a tree whose whole numbers lie from -2^63 to 2^64-1, whose objects' names rise by
 /// bytes, and that has at most 127 levels. A scalar has 0 levels and an empty list 1.
@@ -61,6 +70,23 @@ impl Json {
     {
         let Json { tree } = self;
         tree
+    }
+
+    /// The compact canonical text.
+    pub fn text(&self, alloc: Global) -> Result<Text, NoMemory>
+        ensures { IfOk result (λ text. text ≡ text_of self.now) }
+    {
+        print(alloc, &self.tree)
+    }
+
+    /// Whether the value may be a body: its text has at most 4,096 bytes, and it has at most 100
+    /// levels. It takes no memory, and no more steps than about the limit however large the value is.
+    pub fn body_fits(&self) -> bool
+        ensures { IsTrue result ↔ BodyFits self.now }
+    {
+        // A tree whose text fits is small, so its levels are counted last.
+        room_after(&self.tree, MAX_BODY_BYTES).is_some()
+            && has_levels_within(&self.tree, MAX_BODY_LEVELS)
     }
 }
 
