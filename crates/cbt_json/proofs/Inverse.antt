@@ -6,31 +6,10 @@ use Rattle.serde_json.specs.Written.{has_float, items_have_float, members_have_f
 use Rattle.cbt_json.specs.declared.tree.Tree.{Tree, roll-Tree, ind-Tree, map-Tree, the_lemmas}
 use Rattle.cbt_json.specs.declared.tree.Tree.TheVariants as t
 use Rattle.cbt_json.specs.declared.tree.Tree.TheOpen.{Tree-F}
+use Rattle.cbt_json.specs.Reading.{tree_of, trees_of, named_trees_of, whole_of, given, json_of}
+use Rattle.cbt_json.specs.Rules.{IsJson}
 use Rattle.cbt_json.specs.Trees.{data_of, items_data, members_data, number_of_whole}
 use Rattle.cbt_json.proofs.Views.{data_of-Null, data_of-Bool, data_of-Whole, data_of-Text, data_of-List, data_of-Object}
-
--- the whole number of serde_json's number
-abbrev pub whole_of : Num → Tree
-whole_of (unsigned n) = t.Whole (pos n)
-whole_of (negative z) = t.Whole z
-whole_of (float x) = t.Null
-
-abbrev mutual
-  pub tree_of : Data → Tree
-  tree_of null = t.Null
-  tree_of (boolean b) = t.Bool b
-  tree_of (number n) = whole_of n
-  tree_of (string s) = t.Text s
-  tree_of (array ds) = t.List (trees_of ds)
-  tree_of (object ms) = t.Object (named_trees_of ms)
-
-  pub trees_of : Items → List Tree
-  trees_of no_items = []
-  trees_of (item d ds) = tree_of d ∷ trees_of ds
-
-  pub named_trees_of : Members → List (List ℕ × Tree)
-  named_trees_of no_members = []
-  named_trees_of (member k d ms) = (k, tree_of d) ∷ named_trees_of ms
 
 abbrev Back : Tree → Type 0
 Back x = tree_of (data_of x) ≡ x

@@ -5,3 +5,4 @@ pub mod Values
 pub mod Proper
 pub mod Inverse
 pub mod Again
+pub mod Read

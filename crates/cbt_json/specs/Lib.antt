@@ -2,3 +2,4 @@ pub mod Trees
 pub mod Rules
 pub mod Fit
 pub mod Tokens
+pub mod Reading

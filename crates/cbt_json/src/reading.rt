@@ -1,13 +1,36 @@
-ghost use Rattle.std.specs.Prelude.{◌≡◌, true, IfOk, IsErrOf};
+ghost use Rattle.std.specs.Prelude.{◌≡◌, true, Some, None, IfOk, IsErrOf, IsUtf8};
+ghost use Rattle.std.specs.Option.{IsSomeAnd};
 ghost use Rattle.serde_json.specs.View.{view, items_view, members_view};
 ghost use Rattle.serde_json.specs.Written.{has_float, items_have_float, members_have_float};
 ghost use Rattle.cbt_json.specs.Trees.{data_of, items_data, members_data};
+ghost use Rattle.cbt_json.specs.Rules.{IsJson};
+ghost use Rattle.cbt_json.specs.Reading.{reading};
 
 use crate::fault::JsonFault;
 use crate::tree::Tree;
 use cbt_base::{List, Text};
 use serde_json::{Map, Value};
 use std::alloc::Global;
+
+/// The tree of a text.
+pub(crate) fn parse(alloc: Global, bytes: &[u8]) -> Result<Tree, JsonFault>
+    ensures ok { IfOk result (λ tree. IsUtf8 bytes.now
+        × (reading bytes.now ≡ Some (data_of tree))) }
+    ensures keeps_rules { IfOk result IsJson }
+    ensures not_json { IsErrOf result JsonFault.NotJson → IsUtf8 bytes.now
+        → reading bytes.now ≡ None }
+    ensures not_whole { IsErrOf result JsonFault.NotWhole → IsUtf8 bytes.now
+        × IsSomeAnd (reading bytes.now) (λ d. has_float d ≡ true) }
+{
+    match Value::from_slice(alloc, bytes) {
+        Ok(value) => tree_of_value(alloc, &value),
+        Err(error) => if error.is_memory() {
+            Err(JsonFault::NoMemory)
+        } else {
+            Err(JsonFault::NotJson)
+        },
+    }
+}
 
 /// The tree of what was read, whose numbers are whole.
 #[cycle(reading)]

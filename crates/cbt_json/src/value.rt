@@ -1,9 +1,15 @@
-ghost use Rattle.std.specs.Prelude.{◌≡◌, ◌↔◌, IsTrue, IfOk, IfSome, IfNone};
-ghost use Rattle.cbt_json.specs.Trees.{text_of};
+ghost use Rattle.std.specs.Prelude.{◌≡◌, ◌↔◌, ◌⊎◌, true, Some, None, IsTrue, IfOk, IfSome, IfNone, IsErrOf, IsUtf8};
+ghost use Rattle.std.specs.Option.{IsSomeAnd};
+ghost use Rattle.serde_json.specs.Written.{has_float};
+ghost use Rattle.cbt_json.specs.declared.tree.Tree.{Tree};
+ghost use Rattle.cbt_json.specs.Trees.{data_of, text_of};
 ghost use Rattle.cbt_json.specs.Rules.{IsJson, BodyFits};
+ghost use Rattle.cbt_json.specs.Reading.{reading, json_of};
 
+use crate::fault::JsonFault;
 use crate::fit::room_after;
 use crate::printing::print;
+use crate::reading::parse;
 use crate::rules::{has_levels_within, is_regular_tree};
 use crate::tree::Tree;
 use cbt_base::{Duplicate, NoMemory, Text};
@@ -70,6 +76,25 @@ impl Json {
     {
         let Json { tree } = self;
         tree
+    }
+
+    /// Reads a text (RFC 8259). Of equal names in an object the last counts.
+    pub fn read(alloc: Global, bytes: &[u8]) -> Result<Json, JsonFault>
+        ensures ok { IfOk result (λ json. IsUtf8 bytes.now
+            × (reading bytes.now ≡ Some (data_of json))) }
+        ensures not_json { IsErrOf result JsonFault.NotJson → IsUtf8 bytes.now
+            → reading bytes.now ≡ None }
+        ensures not_whole { IsErrOf result JsonFault.NotWhole → IsUtf8 bytes.now
+            × IsSomeAnd (reading bytes.now) (λ d. has_float d ≡ true) }
+
+        // So a text has one answer, unless memory runs out.
+        ensures answer { IsUtf8 bytes.now
+            → (result ≡ json_of bytes.now) ⊎ IsErrOf result JsonFault.NoMemory }
+        ensures again { (tree : Tree) → IsJson tree → IsUtf8 bytes.now → bytes.now ≡ text_of tree
+            → (result ≡ Ok tree) ⊎ IsErrOf result JsonFault.NoMemory }
+    {
+        let tree = parse(alloc, bytes)?;
+        Ok(Json { tree })
     }
 
     /// The compact canonical text.
