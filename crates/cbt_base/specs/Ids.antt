@@ -1,7 +1,6 @@
 -- Identifiers of documents, attempts, transactions and cleaners, and the place of an attempt's record.
-use Rattle.std.specs.Prelude.{◌≡◌, ℕ, ◌+◌, ◌-◌, ◌*◌, ◌%◌, ◌^◌, Bool, List, Option, Some, None, if◌then◌else◌, nat_lt, nat_le, nat_eq, ◌==◌, ◌&&◌, not, length, position, fold, bit_xor, codes}
+use Rattle.std.specs.Prelude.{◌≡◌, ℕ, ◌+◌, ◌-◌, ◌*◌, ◌%◌, ◌^◌, Bool, List, Option, Some, None, if◌then◌else◌, nat_lt, nat_eq, ◌==◌, ◌&&◌, not, length, position, fold, bit_xor, codes}
 use Rattle.std.specs.List.{starts_with}
-use Rattle.std.specs.Option.{option_map}
 use Rattle.cbt_base.specs.declared.doc_id.IdFault.{IdFault}
 use Rattle.cbt_base.specs.declared.doc_id.IdFault.TheVariants.{Empty, TooLong, BadByte, Reserved}
 

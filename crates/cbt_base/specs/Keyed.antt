@@ -1,5 +1,5 @@
 -- A map as the list of its pairs: what stands at a key, and the list with a key set or gone.
-use Rattle.std.specs.Prelude.{Option, List, Bool}
+use Rattle.std.specs.Prelude.{Option, List}
 use Rattle.std.specs.declared.cmp.Ordering.{Ordering}
 use Rattle.std.specs.BTreeMap.{insert_entry, is_at}
 use Rattle.std.specs.Map.{lookup, remove_entry, keys_of}

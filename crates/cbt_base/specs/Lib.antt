@@ -3,3 +3,6 @@ pub mod Keyed
 pub mod Lent
 pub mod MapLent
 pub mod Ids
+pub mod Clock
+pub mod Causes
+pub mod Streams

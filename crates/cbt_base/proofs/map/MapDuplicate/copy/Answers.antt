@@ -1,4 +1,4 @@
-use Rattle.std.proofs.Common.{◌≡◌, ◌++◌, [], ◌∷◌, rules}
+use Rattle.std.proofs.Common.{rules}
 use Rattle.cbt_base.proofs.Rising.{copy-on}
 use Rattle.cbt_base.proofs.map.MapDuplicate.copy.Goals as goal
 
