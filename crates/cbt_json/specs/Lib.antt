@@ -1,0 +1,5 @@
+pub mod Trees
+pub mod Rules
+pub mod Fit
+pub mod Tokens
+pub mod Reading

@@ -1,0 +1,8 @@
+pub mod Attributes
+pub mod Faults
+pub mod Fitting
+pub mod History
+pub mod Keys
+pub mod Legal
+pub mod Table
+pub mod View

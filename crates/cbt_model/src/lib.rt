@@ -1,0 +1,26 @@
+//! The node that transactions run against, as plain data: its state, the step table, histories of
+//! steps, and the traits of a node and of an actor that calls it.
+#![tactic(auto)]
+
+mod actors;
+mod attributes;
+mod documents;
+mod entries;
+mod events;
+mod fitting;
+mod nodes;
+mod states;
+mod steps;
+mod table;
+mod views;
+
+pub use actors::Actor;
+pub use documents::{DocState, OpKind, Stage};
+pub use entries::{ClientRow, Entry, EntryState, Lists};
+pub use events::{Answer, Event, Fate, Fault, Faults, Item, Kept, Made, Mark};
+pub use fitting::{fits, step_fits};
+pub use nodes::Node;
+pub use states::State;
+pub use steps::{Expect, Reply, Step};
+pub use table::apply;
+pub use views::{expired, view};
