@@ -43,7 +43,7 @@ impl Script {
     {
         let mut docs = Map::new(alloc);
         let mut cas: u64 = 0;
-        for (id, body, attrs) in self.docs.iter() {
+        for (id, body, attrs) in self.docs.as_slice() {
             cas += 1;
             let body = body.copy(alloc)?;
             let attrs = attrs.copy(alloc)?;

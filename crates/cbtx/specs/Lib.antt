@@ -1,1 +1,4 @@
 pub mod Fields
+pub mod FirstForm
+pub mod Words
+pub mod Statuses

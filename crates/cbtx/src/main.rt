@@ -2,5 +2,6 @@
 #![tactic(auto)]
 
 mod fields;
+mod form;
 
 fn main() {}
