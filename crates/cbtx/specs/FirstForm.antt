@@ -108,3 +108,13 @@ pub record IsFirstForm (bytes : List ℕ) (script : Script) : Type 0 where
   pub new : Tree
   pub new_body : IsBody fields.new new
   pub is : script ≡ script_with fields old new
+
+-- a script of the first form
+pub record IsOneReplace (script : Script) : Type 0 where
+  pub fields : Fields
+  pub old : Tree
+  pub new : Tree
+  pub id : IsDocId fields.id
+  pub old_body : BodyFits old
+  pub new_body : BodyFits new
+  pub is : script ≡ script_with fields old new

@@ -1,4 +1,2 @@
 pub mod Fields
 pub mod FirstForm
-pub mod Words
-pub mod Statuses

@@ -66,6 +66,7 @@ impl From<NoMemory> for FormFault {
 }
 
 // What the six lines say.
+#[derive(Clone, Copy)]
 struct Fields<'a> {
     start: u64,
     step: u64,
@@ -89,7 +90,7 @@ pub fn first_form(alloc: Global, bytes: &[u8]) -> Result<Script, FormFault>
     let id = doc_id(alloc, fields.id)?;
     let old = body(alloc, fields.old)?;
     let new = body(alloc, fields.new)?;
-    script(alloc, &fields, id, old, new)
+    Ok(script(alloc, &fields, id, old, new)?)
 }
 
 #[tactic(auto, unfolding(crate::specs::FirstForm::first_fields))]
