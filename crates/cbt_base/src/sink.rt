@@ -146,3 +146,49 @@ impl<W: Write> Sink for StdSink<W> {
         }
     }
 }
+
+#[cfg(test)]
+mod tests {
+    use super::*;
+    use std::io;
+    use std::test::Fail;
+
+    #[test]
+    fn pieces_and_listed_faults(rt: HostRuntime) -> Result<(), Fail> {
+        let fails = List::from_vec(vec![in rt.alloc(); 3, 1]?);
+        let mut sink = MemSink::new(List::new(rt.alloc()), 2, fails);
+        assert_eq!(rt; sink.write(b"abc"), Err(WriteFailed));
+        assert_eq!(rt; sink.write(b"abc"), Ok(2));
+        assert_eq!(rt; sink.write(b"c"), Err(WriteFailed));
+        assert_eq!(rt; sink.write(b"c"), Ok(1));
+        assert_eq!(rt; sink.bytes.as_slice(), b"abc".as_slice());
+        assert_eq!(rt; sink.calls, 4);
+        assert_eq!(rt; sink.faults, 2);
+        Ok(())
+    }
+
+    /// A writer that takes nothing.
+    #[derive(Drop)]
+    struct FullWriter;
+
+    impl Write for FullWriter {
+        fn write(&mut self, _piece: &[u8]) -> io::Result<usize> {
+            Ok(0)
+        }
+
+        fn flush(&mut self) -> io::Result<()> {
+            Ok(())
+        }
+    }
+
+    #[test]
+    fn a_writer_of_std(rt: HostRuntime) {
+        let mut sink = StdSink::new(Vec::new(rt.alloc()));
+        assert_eq!(rt; sink.write(b"abc"), Ok(3));
+        assert_eq!(rt; sink.writer.as_slice(), b"abc".as_slice());
+        assert_eq!(rt; sink.faults, 0);
+        let mut full = StdSink::new(FullWriter);
+        assert_eq!(rt; full.write(b"abc"), Err(WriteFailed));
+        assert_eq!(rt; full.faults, 1);
+    }
+}

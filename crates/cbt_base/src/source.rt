@@ -155,3 +155,69 @@ impl<R: Read> Source for StdSource<R> {
         }
     }
 }
+
+#[cfg(test)]
+mod tests {
+    use super::*;
+    use std::io;
+    use std::io::ErrorKind;
+    use std::test::Fail;
+
+    #[test]
+    fn the_first_read_fails(rt: HostRuntime) -> Result<(), Fail> {
+        let bytes = List::from_vec(vec![in rt.alloc(); 1, 2, 3]?);
+        let fails = List::from_vec(vec![in rt.alloc(); 1]?);
+        let mut source = MemSource::new(bytes, 8, fails);
+        let mut into = [0; 4];
+        assert_eq!(rt; source.read(&mut into), Err(ReadFailed));
+        assert_eq!(rt; source.faults, 1);
+        assert_eq!(rt; source.read(&mut into), Ok(3));
+        assert_eq!(rt; into, [1, 2, 3, 0]);
+        assert_eq!(rt; source.read(&mut into), Ok(0));
+        assert_eq!(rt; source.faults, 1);
+        Ok(())
+    }
+
+    #[test]
+    fn pieces_and_listed_faults(rt: HostRuntime) -> Result<(), Fail> {
+        let bytes = List::from_vec(vec![in rt.alloc(); 1, 2, 3, 4, 5]?);
+        let fails = List::from_vec(vec![in rt.alloc(); 4, 2]?);
+        let mut source = MemSource::new(bytes, 2, fails);
+        let mut into = [0; 4];
+        assert_eq!(rt; source.read(&mut into), Ok(2));
+        assert_eq!(rt; source.read(&mut into), Err(ReadFailed));
+        assert_eq!(rt; source.read(&mut into[..1]), Ok(1));
+        assert_eq!(rt; source.read(&mut into), Err(ReadFailed));
+        assert_eq!(rt; source.read(&mut into), Ok(2));
+        assert_eq!(rt; source.read(&mut into), Ok(0));
+        assert_eq!(rt; into, [4, 5, 0, 0]);
+        assert_eq!(rt; source.calls, 6);
+        assert_eq!(rt; source.faults, 2);
+        Ok(())
+    }
+
+    /// A reader that only fails.
+    #[derive(Drop)]
+    struct NoReader;
+
+    impl Read for NoReader {
+        fn read(&mut self, _into: &mut [u8]) -> io::Result<usize> {
+            Err(ErrorKind::Other.into())
+        }
+    }
+
+    #[test]
+    fn a_reader_of_std(rt: HostRuntime) {
+        let text: &[u8] = b"abc";
+        let mut source = StdSource::new(text);
+        let mut into = [0; 2];
+        assert_eq!(rt; source.read(&mut into), Ok(2));
+        assert_eq!(rt; source.read(&mut into), Ok(1));
+        assert_eq!(rt; into, *b"cb");
+        assert_eq!(rt; source.read(&mut into), Ok(0));
+        assert_eq!(rt; source.faults, 0);
+        let mut broken = StdSource::new(NoReader);
+        assert_eq!(rt; broken.read(&mut into), Err(ReadFailed));
+        assert_eq!(rt; broken.faults, 1);
+    }
+}

@@ -96,3 +96,54 @@ pub fn write_all<K: Sink>(out: &mut K, bytes: &[u8]) -> Result<(), WriteFailed>
     }
     Ok(())
 }
+
+#[cfg(test)]
+mod tests {
+    use super::*;
+    use crate::sink::MemSink;
+    use crate::source::MemSource;
+    use std::test::Fail;
+
+    #[test]
+    fn input_up_to_the_limit(rt: HostRuntime) -> Result<(), Fail> {
+        let alloc = rt.alloc();
+        for (limit, chunk) in [(5, 2), (6, 1), (usize::MAX, 9)] {
+            let bytes = List::from_vec(vec![in alloc; 1, 2, 3, 4, 5]?);
+            let mut source = MemSource::new(bytes, chunk, List::new(alloc));
+            let read = read_all(alloc, &mut source, limit)?;
+            assert_eq!(rt; read.as_slice(), [1, 2, 3, 4, 5].as_slice());
+        }
+        Ok(())
+    }
+
+    #[test]
+    fn input_past_the_limit_and_faults(rt: HostRuntime) -> Result<(), Fail> {
+        let alloc = rt.alloc();
+        let rows = [(4, 7, ReadFault::TooLong, 5), (9, 3, ReadFault::Failed, 4)];
+        for (limit, failing, fault, taken) in rows {
+            let bytes = List::from_vec(vec![in alloc; 1, 2, 3, 4, 5, 6]?);
+            let fails = List::from_vec(vec![in alloc; failing]?);
+            let mut source = MemSource::new(bytes, 2, fails);
+            match read_all(alloc, &mut source, limit) {
+                Ok(_) => assert!(rt; false, "read whole at {limit}"),
+                Err(met) => assert_eq!(rt; met, fault),
+            }
+            assert_eq!(rt; source.at, taken);
+        }
+        Ok(())
+    }
+
+    #[test]
+    fn output_in_pieces_and_up_to_a_fault(rt: HostRuntime) -> Result<(), Fail> {
+        let alloc = rt.alloc();
+        let mut whole = MemSink::new(List::new(alloc), 2, List::new(alloc));
+        write_all(&mut whole, b"abcde")?;
+        assert_eq!(rt; whole.bytes.as_slice(), b"abcde".as_slice());
+        let fails = List::from_vec(vec![in alloc; 2]?);
+        let mut cut = MemSink::new(List::new(alloc), 2, fails);
+        assert_eq!(rt; write_all(&mut cut, b"abcde"), Err(WriteFailed));
+        assert_eq!(rt; cut.bytes.as_slice(), b"ab".as_slice());
+        assert_eq!(rt; cut.faults, 1);
+        Ok(())
+    }
+}
