@@ -3,6 +3,8 @@ ghost use Rattle.std.specs.Prelude.{◌≡◌, ℕ, ◌+◌, ◌-◌, ◌*◌, �
 ghost use Rattle.cbt_base.specs.Clock.{clock_of, clock_read, clock_mutated, ms_of, ClockCall, clock_after, held, RisesBy, reading_at, RunsAlong, ReadsNext};
 
 use crate::list::List;
+use crate::memory::{Duplicate, NoMemory};
+use std::alloc::Global;
 
 /// The largest reading that the clock follows, in milliseconds: 2^43 - 1.
 const LAST_READING: u64 = (1 << 43) - 1;
@@ -118,6 +120,15 @@ pub struct ListClock {
     pub at: usize,
 }
 
+impl Duplicate for ListClock {
+    fn copy(&self, alloc: Global) -> Result<ListClock, NoMemory> {
+        Ok(ListClock {
+            readings: self.readings.copy(alloc)?,
+            at: self.at,
+        })
+    }
+}
+
 impl Clock for ListClock {
     ghost due = { λ c. RunsAlong c.readings c.at };
 
@@ -218,7 +229,9 @@ mod tests {
             readings: List::from_vec(vec![in rt.alloc(); 7, 5]?),
             at: 0,
         };
+        let mut again = clock.copy(rt.alloc())?;
         assert_eq!(rt; first_three(&mut clock), [7, 5, 5]);
+        assert_eq!(rt; first_three(&mut again), [7, 5, 5]);
         let mut silent = ListClock {
             readings: List::new(rt.alloc()),
             at: 0,

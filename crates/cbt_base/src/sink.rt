@@ -6,6 +6,8 @@ ghost use Rattle.cbt_base.specs.Clock.{held};
 ghost use Rattle.cbt_base.specs.Causes.{Rose};
 
 use crate::list::List;
+use crate::memory::{Duplicate, NoMemory};
+use std::alloc::Global;
 use std::error::Error;
 use std::fmt;
 use std::io::Write;
@@ -74,6 +76,18 @@ impl MemSink {
             calls: 0,
             faults: 0,
         }
+    }
+}
+
+impl Duplicate for MemSink {
+    fn copy(&self, alloc: Global) -> Result<MemSink, NoMemory> {
+        Ok(MemSink {
+            bytes: List::from_slice(alloc, self.bytes.as_slice())?,
+            chunk: self.chunk,
+            fails: self.fails.copy(alloc)?,
+            calls: self.calls,
+            faults: self.faults,
+        })
     }
 }
 
@@ -161,6 +175,8 @@ mod tests {
         assert_eq!(rt; sink.write(b"abc"), Ok(2));
         assert_eq!(rt; sink.write(b"c"), Err(WriteFailed));
         assert_eq!(rt; sink.write(b"c"), Ok(1));
+        let again = sink.copy(rt.alloc())?;
+        assert_eq!(rt; again.bytes.as_slice(), b"abc".as_slice());
         assert_eq!(rt; sink.bytes.as_slice(), b"abc".as_slice());
         assert_eq!(rt; sink.calls, 4);
         assert_eq!(rt; sink.faults, 2);

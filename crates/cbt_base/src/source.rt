@@ -7,6 +7,8 @@ ghost use Rattle.cbt_base.specs.Causes.{Rose};
 ghost use Rattle.cbt_base.specs.Streams.{EndsExactly};
 
 use crate::list::List;
+use crate::memory::{Duplicate, NoMemory};
+use std::alloc::Global;
 use std::error::Error;
 use std::fmt;
 use std::io::Read;
@@ -79,6 +81,19 @@ impl MemSource {
             calls: 0,
             faults: 0,
         }
+    }
+}
+
+impl Duplicate for MemSource {
+    fn copy(&self, alloc: Global) -> Result<MemSource, NoMemory> {
+        Ok(MemSource {
+            bytes: List::from_slice(alloc, self.bytes.as_slice())?,
+            at: self.at,
+            chunk: self.chunk,
+            fails: self.fails.copy(alloc)?,
+            calls: self.calls,
+            faults: self.faults,
+        })
     }
 }
 
@@ -188,9 +203,12 @@ mod tests {
         assert_eq!(rt; source.read(&mut into), Err(ReadFailed));
         assert_eq!(rt; source.read(&mut into[..1]), Ok(1));
         assert_eq!(rt; source.read(&mut into), Err(ReadFailed));
+        let mut again = source.copy(rt.alloc())?;
         assert_eq!(rt; source.read(&mut into), Ok(2));
         assert_eq!(rt; source.read(&mut into), Ok(0));
         assert_eq!(rt; into, [4, 5, 0, 0]);
+        assert_eq!(rt; again.read(&mut into[2..]), Ok(2));
+        assert_eq!(rt; into, [4, 5, 4, 5]);
         assert_eq!(rt; source.calls, 6);
         assert_eq!(rt; source.faults, 2);
         Ok(())
