@@ -26,5 +26,5 @@ pub use map::Map;
 pub use memory::{Duplicate, NoMemory};
 pub use sink::{MemSink, Sink, StdSink, WriteFailed};
 pub use source::{MemSource, ReadFailed, Source, StdSource};
-pub use streams::{ReadFault, read_all, write_all};
+pub use streams::{ReadFault, read_all, rose_is_larger_or_at_the_end, write_all};
 pub use text::Text;

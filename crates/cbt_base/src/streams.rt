@@ -1,5 +1,5 @@
 //! Whole streams: all input up to a limit, and all of an output.
-ghost use Rattle.std.specs.Prelude.{◌≡◌, ◌≤◌, length, IfOk, OnOk, OnErr, IsErrOf};
+ghost use Rattle.std.specs.Prelude.{◌≡◌, ℕ, ◌-◌, ◌^◌, ◌<◌, ◌≤◌, ◌↔◌, ◌⊎◌, length, IfOk, OnOk, OnErr, IsErrOf};
 ghost use Rattle.std.specs.Io.KnownBytes.{Appends};
 ghost use Rattle.cbt_base.specs.Causes.{Rose};
 ghost use Rattle.cbt_base.specs.Streams.{ReadWhole, ReadUpTo, ReadPast, WrotePart};
@@ -96,6 +96,11 @@ pub fn write_all<K: Sink>(out: &mut K, bytes: &[u8]) -> Result<(), WriteFailed>
     }
     Ok(())
 }
+
+/// A law: a count of 64 bits rose exactly where it is larger than before, or stands at its end.
+pub fn rose_is_larger_or_at_the_end()
+    ensures { (before now : ℕ) → now < 2 ^ 64 → (Rose before now ↔ ((before < now) ⊎ (now ≡ 2 ^ 64 - 1))) }
+{}
 
 #[cfg(test)]
 mod tests {
