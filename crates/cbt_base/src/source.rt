@@ -160,7 +160,20 @@ impl<R: Read> Source for StdSource<R> {
 
     ghost faults = { λ s. s.faults };
 
-    fn read(&mut self, into: &mut [u8]) -> Result<usize, ReadFailed> {
+    fn read(&mut self, into: &mut [u8]) -> Result<usize, ReadFailed>
+        requires { 0 < length into.old }
+        ensures within { IfOk result (λ k. k ≤ length into.old) }
+        ensures moves { IfOk result (λ k. Consumes (R.remaining self.old.reader) (R.remaining self.new.reader) (take k into.new)) }
+        ensures ends { IfOk result (EndsExactly (R.remaining self.old.reader)) }
+        ensures ended { IfOk result (λ k. k ≡ 0 → IsAtEnd (R.remaining self.new.reader)) }
+        ensures keeps { OnErr result (Keeps (R.remaining self.old.reader) (R.remaining self.new.reader)) }
+        ensures later { self.old.faults ≤ self.new.faults }
+        ensures failed { OnErr result (Rose self.old.faults self.new.faults) }
+
+        // Beyond what each source promises: the count is raised by one at each error, and only there.
+        ensures fault { OnErr result (self.new.faults ≡ held (self.old.faults + 1)) }
+        ensures no_fault { OnOk result (self.new.faults ≡ self.old.faults) }
+    {
         match self.reader.read(into) {
             Ok(count) => Ok(count),
             Err(_) => {
