@@ -63,7 +63,8 @@ pub fn ms(cas: u64) -> u64
 pub fn leading_reading_is_now()
     ensures stamp { (r : ℕ) → r < 2 ^ 43 → ms_of (clock_of r) ≡ r }
     ensures read { (last r : ℕ) → r < 2 ^ 43 → last ≤ clock_of r → ms_of (clock_read last r) ≡ r }
-    ensures mutated { (last r : ℕ) → r < 2 ^ 43 → last < clock_of r → ms_of (clock_mutated last r) ≡ r }
+    ensures mutated { (last r : ℕ) → r < 2 ^ 43 → last < clock_of r
+        → ms_of (clock_mutated last r) ≡ r }
 {}
 
 /// A law: a call lifts the clock above its readings by at most one.
@@ -74,7 +75,8 @@ pub fn clock_leads_by_one()
 
 /// A law: whatever calls lie between, a new stamp is above each earlier value of the clock.
 pub fn stamp_is_above_all_earlier()
-    ensures { (last : ℕ) (calls : List ClockCall) (r : ℕ) → last < clock_mutated (clock_after last calls) r }
+    ensures { (last : ℕ) (calls : List ClockCall) (r : ℕ)
+        → last < clock_mutated (clock_after last calls) r }
 {}
 
 /// Where readings in milliseconds come from. It cannot fail.

@@ -37,7 +37,8 @@ pub trait Sink {
         requires { 0 < length piece.now }
         ensures some { IfOk result (λ k. 0 < k) }
         ensures within { IfOk result (λ k. k ≤ length piece.now) }
-        ensures takes { IfOk result (λ k. Appends (taken self.old) (taken self.new) (take k piece.now)) }
+        ensures takes { IfOk result (λ k.
+            Appends (taken self.old) (taken self.new) (take k piece.now)) }
         ensures keeps { OnErr result (Keeps (taken self.old) (taken self.new)) }
         ensures later { faults self.old ≤ faults self.new }
         ensures failed { OnErr result (Rose (faults self.old) (faults self.new)) };
@@ -154,12 +155,14 @@ impl<W: Write> Sink for StdSink<W> {
         requires { 0 < length piece.now }
         ensures some { IfOk result (λ k. 0 < k) }
         ensures within { IfOk result (λ k. k ≤ length piece.now) }
-        ensures takes { IfOk result (λ k. Appends (W.contents self.old.writer) (W.contents self.new.writer) (take k piece.now)) }
-        ensures keeps { OnErr result (Keeps (W.contents self.old.writer) (W.contents self.new.writer)) }
+        ensures takes { IfOk result (λ k.
+            Appends (W.contents self.old.writer) (W.contents self.new.writer) (take k piece.now)) }
+        ensures keeps { OnErr result
+            (Keeps (W.contents self.old.writer) (W.contents self.new.writer)) }
         ensures later { self.old.faults ≤ self.new.faults }
         ensures failed { OnErr result (Rose self.old.faults self.new.faults) }
 
-        // Beyond what each sink promises: the count is raised by one at each fault, and only there.
+        // Beyond what each sink promises: the count rises by one at each fault, and only there.
         ensures fault { OnErr result (self.new.faults ≡ held (self.old.faults + 1)) }
         ensures no_fault { OnOk result (self.new.faults ≡ self.old.faults) }
     {

@@ -37,7 +37,8 @@ pub trait Source {
     fn read(&mut self, into: &mut [u8]) -> Result<usize, ReadFailed>
         requires { 0 < length into.old }
         ensures within { IfOk result (λ k. k ≤ length into.old) }
-        ensures moves { IfOk result (λ k. Consumes (left self.old) (left self.new) (take k into.new)) }
+        ensures moves { IfOk result (λ k.
+            Consumes (left self.old) (left self.new) (take k into.new)) }
         ensures ends { IfOk result (EndsExactly (left self.old)) }
         ensures ended { IfOk result (λ k. k ≡ 0 → IsAtEnd (left self.new)) }
         ensures keeps { OnErr result (Keeps (left self.old) (left self.new)) }
@@ -105,16 +106,20 @@ impl Source for MemSource {
     fn read(&mut self, into: &mut [u8]) -> Result<usize, ReadFailed>
         requires { 0 < length into.old }
         ensures within { IfOk result (λ k. k ≤ length into.old) }
-        ensures moves { IfOk result (λ k. drop self.old.at self.old.bytes ≡ take k into.new ++ drop self.new.at self.new.bytes) }
+        ensures moves { IfOk result (λ k.
+            drop self.old.at self.old.bytes ≡ take k into.new ++ drop self.new.at self.new.bytes) }
         ensures ends { IfOk result (λ k. (k ≡ 0) ↔ (drop self.old.at self.old.bytes ≡ [])) }
         ensures ended { IfOk result (λ k. k ≡ 0 → drop self.new.at self.new.bytes ≡ []) }
-        ensures keeps { OnErr result (drop self.new.at self.new.bytes ≡ drop self.old.at self.old.bytes) }
+        ensures keeps { OnErr result
+            (drop self.new.at self.new.bytes ≡ drop self.old.at self.old.bytes) }
         ensures later { self.old.faults ≤ self.new.faults }
         ensures failed { OnErr result (Rose self.old.faults self.new.faults) }
 
         // Beyond what each source promises.
         ensures fails { IsErr result ↔ Contains self.old.fails (held (self.old.calls + 1)) }
-        ensures count { IfOk result (λ k. k ≡ min (min self.old.chunk (length into.old)) (length (drop self.old.at self.old.bytes))) }
+        ensures count { IfOk result (λ k.
+            k ≡ min (min self.old.chunk (length into.old))
+            (length (drop self.old.at self.old.bytes))) }
         ensures place { IfOk result (λ k. self.new.at ≡ self.old.at + k) }
         ensures place_kept { OnErr result (self.new.at ≡ self.old.at) }
         ensures calls { self.new.calls ≡ held (self.old.calls + 1) }
@@ -163,14 +168,17 @@ impl<R: Read> Source for StdSource<R> {
     fn read(&mut self, into: &mut [u8]) -> Result<usize, ReadFailed>
         requires { 0 < length into.old }
         ensures within { IfOk result (λ k. k ≤ length into.old) }
-        ensures moves { IfOk result (λ k. Consumes (R.remaining self.old.reader) (R.remaining self.new.reader) (take k into.new)) }
+        ensures moves { IfOk result (λ k.
+            Consumes (R.remaining self.old.reader) (R.remaining self.new.reader)
+            (take k into.new)) }
         ensures ends { IfOk result (EndsExactly (R.remaining self.old.reader)) }
         ensures ended { IfOk result (λ k. k ≡ 0 → IsAtEnd (R.remaining self.new.reader)) }
-        ensures keeps { OnErr result (Keeps (R.remaining self.old.reader) (R.remaining self.new.reader)) }
+        ensures keeps { OnErr result
+            (Keeps (R.remaining self.old.reader) (R.remaining self.new.reader)) }
         ensures later { self.old.faults ≤ self.new.faults }
         ensures failed { OnErr result (Rose self.old.faults self.new.faults) }
 
-        // Beyond what each source promises: the count is raised by one at each error, and only there.
+        // Beyond what each source promises: the count rises by one at each error, and only there.
         ensures fault { OnErr result (self.new.faults ≡ held (self.old.faults + 1)) }
         ensures no_fault { OnOk result (self.new.faults ≡ self.old.faults) }
     {

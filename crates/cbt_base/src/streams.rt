@@ -63,9 +63,12 @@ pub fn read_all<S: Source>(alloc: Global, src: &mut S, limit: usize) -> Result<L
 
     // When each fault comes, and what was taken by then.
     ensures failed { IsErrOf result ReadFault.Failed → Rose (S.faults src.old) (S.faults src.new) }
-    ensures failed_after { IsErrOf result ReadFault.Failed → ReadUpTo (S.left src.old) (S.left src.new) limit }
-    ensures refused_after { IsErrOf result ReadFault.NoMemory → ReadUpTo (S.left src.old) (S.left src.new) limit }
-    ensures long { IsErrOf result ReadFault.TooLong → ReadPast (S.left src.old) (S.left src.new) limit }
+    ensures failed_after { IsErrOf result ReadFault.Failed
+        → ReadUpTo (S.left src.old) (S.left src.new) limit }
+    ensures refused_after { IsErrOf result ReadFault.NoMemory
+        → ReadUpTo (S.left src.old) (S.left src.new) limit }
+    ensures long { IsErrOf result ReadFault.TooLong
+        → ReadPast (S.left src.old) (S.left src.new) limit }
 {
     let mut bytes = List::new(alloc);
     let mut piece = [0; PIECE];
@@ -99,7 +102,8 @@ pub fn write_all<K: Sink>(out: &mut K, bytes: &[u8]) -> Result<(), WriteFailed>
 
 /// A law: a count of 64 bits rose exactly where it is larger than before, or stands at its end.
 pub fn rose_is_larger_or_at_the_end()
-    ensures { (before now : ℕ) → now < 2 ^ 64 → (Rose before now ↔ ((before < now) ⊎ (now ≡ 2 ^ 64 - 1))) }
+    ensures { (before now : ℕ) → now < 2 ^ 64
+        → (Rose before now ↔ ((before < now) ⊎ (now ≡ 2 ^ 64 - 1))) }
 {}
 
 #[cfg(test)]
