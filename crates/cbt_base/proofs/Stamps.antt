@@ -1,5 +1,5 @@
 -- Lemmas on the clock: how far it leads, that it never falls, and what `ms` gives back.
-use Rattle.std.proofs.Common.{◌≡◌, ℕ, ◌+◌, ◌-◌, ◌*◌, ◌/◌, ◌^◌, ◌<◌, ◌≤◌, min, max, List, [], ◌∷◌, arith}
+use Rattle.std.proofs.Common.{◌≡◌, ℕ, ◌+◌, ◌^◌, ◌<◌, ◌≤◌, max, List, [], ◌∷◌, arith}
 use Rattle.cbt_base.specs.Clock.{clock_of, clock_read, clock_mutated, ms_of, ClockCall, Reads, Mutates, clock_after}
 
 -- no reading leads past 2^63

@@ -3,6 +3,8 @@ ghost use Rattle.std.specs.Prelude.{◌≡◌, ℕ, ◌+◌, ◌-◌, ◌*◌, �
 ghost use Rattle.cbt_base.specs.Clock.{clock_of, clock_read, clock_mutated, ms_of, ClockCall, clock_after, held, RisesBy, reading_at, RunsAlong, ReadsNext};
 
 use crate::list::List;
+use crate::memory::{Duplicate, NoMemory};
+use std::alloc::Global;
 
 /// The largest reading that the clock follows, in milliseconds: 2^43 - 1.
 const LAST_READING: u64 = (1 << 43) - 1;
@@ -61,7 +63,8 @@ pub fn ms(cas: u64) -> u64
 pub fn leading_reading_is_now()
     ensures stamp { (r : ℕ) → r < 2 ^ 43 → ms_of (clock_of r) ≡ r }
     ensures read { (last r : ℕ) → r < 2 ^ 43 → last ≤ clock_of r → ms_of (clock_read last r) ≡ r }
-    ensures mutated { (last r : ℕ) → r < 2 ^ 43 → last < clock_of r → ms_of (clock_mutated last r) ≡ r }
+    ensures mutated { (last r : ℕ) → r < 2 ^ 43 → last < clock_of r
+        → ms_of (clock_mutated last r) ≡ r }
 {}
 
 /// A law: a call lifts the clock above its readings by at most one.
@@ -72,7 +75,8 @@ pub fn clock_leads_by_one()
 
 /// A law: whatever calls lie between, a new stamp is above each earlier value of the clock.
 pub fn stamp_is_above_all_earlier()
-    ensures { (last : ℕ) (calls : List ClockCall) (r : ℕ) → last < clock_mutated (clock_after last calls) r }
+    ensures { (last : ℕ) (calls : List ClockCall) (r : ℕ)
+        → last < clock_mutated (clock_after last calls) r }
 {}
 
 /// Where readings in milliseconds come from. It cannot fail.
@@ -116,6 +120,15 @@ pub struct ListClock {
     pub readings: List<u64>,
     /// The place of the next reading.
     pub at: usize,
+}
+
+impl Duplicate for ListClock {
+    fn copy(&self, alloc: Global) -> Result<ListClock, NoMemory> {
+        Ok(ListClock {
+            readings: self.readings.copy(alloc)?,
+            at: self.at,
+        })
+    }
 }
 
 impl Clock for ListClock {
@@ -218,7 +231,9 @@ mod tests {
             readings: List::from_vec(vec![in rt.alloc(); 7, 5]?),
             at: 0,
         };
+        let mut again = clock.copy(rt.alloc())?;
         assert_eq!(rt; first_three(&mut clock), [7, 5, 5]);
+        assert_eq!(rt; first_three(&mut again), [7, 5, 5]);
         let mut silent = ListClock {
             readings: List::new(rt.alloc()),
             at: 0,

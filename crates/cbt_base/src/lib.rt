@@ -14,17 +14,17 @@ mod source;
 mod streams;
 mod text;
 
+pub use clock::{
+    Clock, Hlc, ListClock, StepClock, clock_leads_by_one, leading_reading_is_now, ms,
+    stamp_is_above_all_earlier,
+};
 pub use doc_id::{DocId, IdFault, MAX_ID_LEN};
 pub use id::{Id, atr_of};
 pub use laws::{get_after_insert, get_after_remove, identifiers_differ};
 pub use list::List;
 pub use map::Map;
 pub use memory::{Duplicate, NoMemory};
-pub use text::Text;
-pub use clock::{
-    Clock, Hlc, ListClock, StepClock, clock_leads_by_one, leading_reading_is_now, ms,
-    stamp_is_above_all_earlier,
-};
 pub use sink::{MemSink, Sink, StdSink, WriteFailed};
 pub use source::{MemSource, ReadFailed, Source, StdSource};
-pub use streams::{ReadFault, read_all, write_all};
+pub use streams::{ReadFault, read_all, rose_is_larger_or_at_the_end, write_all};
+pub use text::Text;

@@ -6,6 +6,8 @@ ghost use Rattle.cbt_base.specs.Clock.{held};
 ghost use Rattle.cbt_base.specs.Causes.{Rose};
 
 use crate::list::List;
+use crate::memory::{Duplicate, NoMemory};
+use std::alloc::Global;
 use std::error::Error;
 use std::fmt;
 use std::io::Write;
@@ -35,7 +37,8 @@ pub trait Sink {
         requires { 0 < length piece.now }
         ensures some { IfOk result (λ k. 0 < k) }
         ensures within { IfOk result (λ k. k ≤ length piece.now) }
-        ensures takes { IfOk result (λ k. Appends (taken self.old) (taken self.new) (take k piece.now)) }
+        ensures takes { IfOk result (λ k.
+            Appends (taken self.old) (taken self.new) (take k piece.now)) }
         ensures keeps { OnErr result (Keeps (taken self.old) (taken self.new)) }
         ensures later { faults self.old ≤ faults self.new }
         ensures failed { OnErr result (Rose (faults self.old) (faults self.new)) };
@@ -74,6 +77,18 @@ impl MemSink {
             calls: 0,
             faults: 0,
         }
+    }
+}
+
+impl Duplicate for MemSink {
+    fn copy(&self, alloc: Global) -> Result<MemSink, NoMemory> {
+        Ok(MemSink {
+            bytes: List::from_slice(alloc, self.bytes.as_slice())?,
+            chunk: self.chunk,
+            fails: self.fails.copy(alloc)?,
+            calls: self.calls,
+            faults: self.faults,
+        })
     }
 }
 
@@ -136,7 +151,21 @@ impl<W: Write> Sink for StdSink<W> {
 
     ghost faults = { λ s. s.faults };
 
-    fn write(&mut self, piece: &[u8]) -> Result<usize, WriteFailed> {
+    fn write(&mut self, piece: &[u8]) -> Result<usize, WriteFailed>
+        requires { 0 < length piece.now }
+        ensures some { IfOk result (λ k. 0 < k) }
+        ensures within { IfOk result (λ k. k ≤ length piece.now) }
+        ensures takes { IfOk result (λ k.
+            Appends (W.contents self.old.writer) (W.contents self.new.writer) (take k piece.now)) }
+        ensures keeps { OnErr result
+            (Keeps (W.contents self.old.writer) (W.contents self.new.writer)) }
+        ensures later { self.old.faults ≤ self.new.faults }
+        ensures failed { OnErr result (Rose self.old.faults self.new.faults) }
+
+        // Beyond what each sink promises: the count rises by one at each fault, and only there.
+        ensures fault { OnErr result (self.new.faults ≡ held (self.old.faults + 1)) }
+        ensures no_fault { OnOk result (self.new.faults ≡ self.old.faults) }
+    {
         match self.writer.write(piece) {
             Ok(count) if count > 0 => Ok(count),
             _ => {
@@ -144,5 +173,53 @@ impl<W: Write> Sink for StdSink<W> {
                 Err(WriteFailed)
             }
         }
+    }
+}
+
+#[cfg(test)]
+mod tests {
+    use super::*;
+    use std::io;
+    use std::test::Fail;
+
+    #[test]
+    fn pieces_and_listed_faults(rt: HostRuntime) -> Result<(), Fail> {
+        let fails = List::from_vec(vec![in rt.alloc(); 3, 1]?);
+        let mut sink = MemSink::new(List::new(rt.alloc()), 2, fails);
+        assert_eq!(rt; sink.write(b"abc"), Err(WriteFailed));
+        assert_eq!(rt; sink.write(b"abc"), Ok(2));
+        assert_eq!(rt; sink.write(b"c"), Err(WriteFailed));
+        assert_eq!(rt; sink.write(b"c"), Ok(1));
+        let again = sink.copy(rt.alloc())?;
+        assert_eq!(rt; again.bytes.as_slice(), b"abc".as_slice());
+        assert_eq!(rt; sink.bytes.as_slice(), b"abc".as_slice());
+        assert_eq!(rt; sink.calls, 4);
+        assert_eq!(rt; sink.faults, 2);
+        Ok(())
+    }
+
+    /// A writer that takes nothing.
+    #[derive(Drop)]
+    struct FullWriter;
+
+    impl Write for FullWriter {
+        fn write(&mut self, _piece: &[u8]) -> io::Result<usize> {
+            Ok(0)
+        }
+
+        fn flush(&mut self) -> io::Result<()> {
+            Ok(())
+        }
+    }
+
+    #[test]
+    fn a_writer_of_std(rt: HostRuntime) {
+        let mut sink = StdSink::new(Vec::new(rt.alloc()));
+        assert_eq!(rt; sink.write(b"abc"), Ok(3));
+        assert_eq!(rt; sink.writer.as_slice(), b"abc".as_slice());
+        assert_eq!(rt; sink.faults, 0);
+        let mut full = StdSink::new(FullWriter);
+        assert_eq!(rt; full.write(b"abc"), Err(WriteFailed));
+        assert_eq!(rt; full.faults, 1);
     }
 }

@@ -7,6 +7,8 @@ ghost use Rattle.cbt_base.specs.Causes.{Rose};
 ghost use Rattle.cbt_base.specs.Streams.{EndsExactly};
 
 use crate::list::List;
+use crate::memory::{Duplicate, NoMemory};
+use std::alloc::Global;
 use std::error::Error;
 use std::fmt;
 use std::io::Read;
@@ -35,7 +37,8 @@ pub trait Source {
     fn read(&mut self, into: &mut [u8]) -> Result<usize, ReadFailed>
         requires { 0 < length into.old }
         ensures within { IfOk result (λ k. k ≤ length into.old) }
-        ensures moves { IfOk result (λ k. Consumes (left self.old) (left self.new) (take k into.new)) }
+        ensures moves { IfOk result (λ k.
+            Consumes (left self.old) (left self.new) (take k into.new)) }
         ensures ends { IfOk result (EndsExactly (left self.old)) }
         ensures ended { IfOk result (λ k. k ≡ 0 → IsAtEnd (left self.new)) }
         ensures keeps { OnErr result (Keeps (left self.old) (left self.new)) }
@@ -82,6 +85,19 @@ impl MemSource {
     }
 }
 
+impl Duplicate for MemSource {
+    fn copy(&self, alloc: Global) -> Result<MemSource, NoMemory> {
+        Ok(MemSource {
+            bytes: List::from_slice(alloc, self.bytes.as_slice())?,
+            at: self.at,
+            chunk: self.chunk,
+            fails: self.fails.copy(alloc)?,
+            calls: self.calls,
+            faults: self.faults,
+        })
+    }
+}
+
 impl Source for MemSource {
     ghost left = { λ s. Some (drop s.at s.bytes) };
 
@@ -90,16 +106,20 @@ impl Source for MemSource {
     fn read(&mut self, into: &mut [u8]) -> Result<usize, ReadFailed>
         requires { 0 < length into.old }
         ensures within { IfOk result (λ k. k ≤ length into.old) }
-        ensures moves { IfOk result (λ k. drop self.old.at self.old.bytes ≡ take k into.new ++ drop self.new.at self.new.bytes) }
+        ensures moves { IfOk result (λ k.
+            drop self.old.at self.old.bytes ≡ take k into.new ++ drop self.new.at self.new.bytes) }
         ensures ends { IfOk result (λ k. (k ≡ 0) ↔ (drop self.old.at self.old.bytes ≡ [])) }
         ensures ended { IfOk result (λ k. k ≡ 0 → drop self.new.at self.new.bytes ≡ []) }
-        ensures keeps { OnErr result (drop self.new.at self.new.bytes ≡ drop self.old.at self.old.bytes) }
+        ensures keeps { OnErr result
+            (drop self.new.at self.new.bytes ≡ drop self.old.at self.old.bytes) }
         ensures later { self.old.faults ≤ self.new.faults }
         ensures failed { OnErr result (Rose self.old.faults self.new.faults) }
 
         // Beyond what each source promises.
         ensures fails { IsErr result ↔ Contains self.old.fails (held (self.old.calls + 1)) }
-        ensures count { IfOk result (λ k. k ≡ min (min self.old.chunk (length into.old)) (length (drop self.old.at self.old.bytes))) }
+        ensures count { IfOk result (λ k.
+            k ≡ min (min self.old.chunk (length into.old))
+            (length (drop self.old.at self.old.bytes))) }
         ensures place { IfOk result (λ k. self.new.at ≡ self.old.at + k) }
         ensures place_kept { OnErr result (self.new.at ≡ self.old.at) }
         ensures calls { self.new.calls ≡ held (self.old.calls + 1) }
@@ -145,7 +165,23 @@ impl<R: Read> Source for StdSource<R> {
 
     ghost faults = { λ s. s.faults };
 
-    fn read(&mut self, into: &mut [u8]) -> Result<usize, ReadFailed> {
+    fn read(&mut self, into: &mut [u8]) -> Result<usize, ReadFailed>
+        requires { 0 < length into.old }
+        ensures within { IfOk result (λ k. k ≤ length into.old) }
+        ensures moves { IfOk result (λ k.
+            Consumes (R.remaining self.old.reader) (R.remaining self.new.reader)
+            (take k into.new)) }
+        ensures ends { IfOk result (EndsExactly (R.remaining self.old.reader)) }
+        ensures ended { IfOk result (λ k. k ≡ 0 → IsAtEnd (R.remaining self.new.reader)) }
+        ensures keeps { OnErr result
+            (Keeps (R.remaining self.old.reader) (R.remaining self.new.reader)) }
+        ensures later { self.old.faults ≤ self.new.faults }
+        ensures failed { OnErr result (Rose self.old.faults self.new.faults) }
+
+        // Beyond what each source promises: the count rises by one at each error, and only there.
+        ensures fault { OnErr result (self.new.faults ≡ held (self.old.faults + 1)) }
+        ensures no_fault { OnOk result (self.new.faults ≡ self.old.faults) }
+    {
         match self.reader.read(into) {
             Ok(count) => Ok(count),
             Err(_) => {
@@ -153,5 +189,74 @@ impl<R: Read> Source for StdSource<R> {
                 Err(ReadFailed)
             }
         }
+    }
+}
+
+#[cfg(test)]
+mod tests {
+    use super::*;
+    use std::io;
+    use std::io::ErrorKind;
+    use std::test::Fail;
+
+    #[test]
+    fn the_first_read_fails(rt: HostRuntime) -> Result<(), Fail> {
+        let bytes = List::from_vec(vec![in rt.alloc(); 1, 2, 3]?);
+        let fails = List::from_vec(vec![in rt.alloc(); 1]?);
+        let mut source = MemSource::new(bytes, 8, fails);
+        let mut into = [0; 4];
+        assert_eq!(rt; source.read(&mut into), Err(ReadFailed));
+        assert_eq!(rt; source.faults, 1);
+        assert_eq!(rt; source.read(&mut into), Ok(3));
+        assert_eq!(rt; into, [1, 2, 3, 0]);
+        assert_eq!(rt; source.read(&mut into), Ok(0));
+        assert_eq!(rt; source.faults, 1);
+        Ok(())
+    }
+
+    #[test]
+    fn pieces_and_listed_faults(rt: HostRuntime) -> Result<(), Fail> {
+        let bytes = List::from_vec(vec![in rt.alloc(); 1, 2, 3, 4, 5]?);
+        let fails = List::from_vec(vec![in rt.alloc(); 4, 2]?);
+        let mut source = MemSource::new(bytes, 2, fails);
+        let mut into = [0; 4];
+        assert_eq!(rt; source.read(&mut into), Ok(2));
+        assert_eq!(rt; source.read(&mut into), Err(ReadFailed));
+        assert_eq!(rt; source.read(&mut into[..1]), Ok(1));
+        assert_eq!(rt; source.read(&mut into), Err(ReadFailed));
+        let mut again = source.copy(rt.alloc())?;
+        assert_eq!(rt; source.read(&mut into), Ok(2));
+        assert_eq!(rt; source.read(&mut into), Ok(0));
+        assert_eq!(rt; into, [4, 5, 0, 0]);
+        assert_eq!(rt; again.read(&mut into[2..]), Ok(2));
+        assert_eq!(rt; into, [4, 5, 4, 5]);
+        assert_eq!(rt; source.calls, 6);
+        assert_eq!(rt; source.faults, 2);
+        Ok(())
+    }
+
+    /// A reader that only fails.
+    #[derive(Drop)]
+    struct NoReader;
+
+    impl Read for NoReader {
+        fn read(&mut self, _into: &mut [u8]) -> io::Result<usize> {
+            Err(ErrorKind::Other.into())
+        }
+    }
+
+    #[test]
+    fn a_reader_of_std(rt: HostRuntime) {
+        let text: &[u8] = b"abc";
+        let mut source = StdSource::new(text);
+        let mut into = [0; 2];
+        assert_eq!(rt; source.read(&mut into), Ok(2));
+        assert_eq!(rt; source.read(&mut into), Ok(1));
+        assert_eq!(rt; into, *b"cb");
+        assert_eq!(rt; source.read(&mut into), Ok(0));
+        assert_eq!(rt; source.faults, 0);
+        let mut broken = StdSource::new(NoReader);
+        assert_eq!(rt; broken.read(&mut into), Err(ReadFailed));
+        assert_eq!(rt; broken.faults, 1);
     }
 }

@@ -1,5 +1,5 @@
 //! Whole streams: all input up to a limit, and all of an output.
-ghost use Rattle.std.specs.Prelude.{◌≡◌, ◌≤◌, length, IfOk, OnOk, OnErr, IsErrOf};
+ghost use Rattle.std.specs.Prelude.{◌≡◌, ℕ, ◌-◌, ◌^◌, ◌<◌, ◌≤◌, ◌↔◌, ◌⊎◌, length, IfOk, OnOk, OnErr, IsErrOf};
 ghost use Rattle.std.specs.Io.KnownBytes.{Appends};
 ghost use Rattle.cbt_base.specs.Causes.{Rose};
 ghost use Rattle.cbt_base.specs.Streams.{ReadWhole, ReadUpTo, ReadPast, WrotePart};
@@ -63,9 +63,12 @@ pub fn read_all<S: Source>(alloc: Global, src: &mut S, limit: usize) -> Result<L
 
     // When each fault comes, and what was taken by then.
     ensures failed { IsErrOf result ReadFault.Failed → Rose (S.faults src.old) (S.faults src.new) }
-    ensures failed_after { IsErrOf result ReadFault.Failed → ReadUpTo (S.left src.old) (S.left src.new) limit }
-    ensures refused_after { IsErrOf result ReadFault.NoMemory → ReadUpTo (S.left src.old) (S.left src.new) limit }
-    ensures long { IsErrOf result ReadFault.TooLong → ReadPast (S.left src.old) (S.left src.new) limit }
+    ensures failed_after { IsErrOf result ReadFault.Failed
+        → ReadUpTo (S.left src.old) (S.left src.new) limit }
+    ensures refused_after { IsErrOf result ReadFault.NoMemory
+        → ReadUpTo (S.left src.old) (S.left src.new) limit }
+    ensures long { IsErrOf result ReadFault.TooLong
+        → ReadPast (S.left src.old) (S.left src.new) limit }
 {
     let mut bytes = List::new(alloc);
     let mut piece = [0; PIECE];
@@ -95,4 +98,61 @@ pub fn write_all<K: Sink>(out: &mut K, bytes: &[u8]) -> Result<(), WriteFailed>
         rest = rest.split_at(count).1;
     }
     Ok(())
+}
+
+/// A law: a count of 64 bits rose exactly where it is larger than before, or stands at its end.
+pub fn rose_is_larger_or_at_the_end()
+    ensures { (before now : ℕ) → now < 2 ^ 64
+        → (Rose before now ↔ ((before < now) ⊎ (now ≡ 2 ^ 64 - 1))) }
+{}
+
+#[cfg(test)]
+mod tests {
+    use super::*;
+    use crate::sink::MemSink;
+    use crate::source::MemSource;
+    use std::test::Fail;
+
+    #[test]
+    fn input_up_to_the_limit(rt: HostRuntime) -> Result<(), Fail> {
+        let alloc = rt.alloc();
+        for (limit, chunk) in [(5, 2), (6, 1), (usize::MAX, 9)] {
+            let bytes = List::from_vec(vec![in alloc; 1, 2, 3, 4, 5]?);
+            let mut source = MemSource::new(bytes, chunk, List::new(alloc));
+            let read = read_all(alloc, &mut source, limit)?;
+            assert_eq!(rt; read.as_slice(), [1, 2, 3, 4, 5].as_slice());
+        }
+        Ok(())
+    }
+
+    #[test]
+    fn input_past_the_limit_and_faults(rt: HostRuntime) -> Result<(), Fail> {
+        let alloc = rt.alloc();
+        let rows = [(4, 7, ReadFault::TooLong, 5), (9, 3, ReadFault::Failed, 4)];
+        for (limit, failing, fault, taken) in rows {
+            let bytes = List::from_vec(vec![in alloc; 1, 2, 3, 4, 5, 6]?);
+            let fails = List::from_vec(vec![in alloc; failing]?);
+            let mut source = MemSource::new(bytes, 2, fails);
+            match read_all(alloc, &mut source, limit) {
+                Ok(_) => assert!(rt; false, "read whole at {limit}"),
+                Err(met) => assert_eq!(rt; met, fault),
+            }
+            assert_eq!(rt; source.at, taken);
+        }
+        Ok(())
+    }
+
+    #[test]
+    fn output_in_pieces_and_up_to_a_fault(rt: HostRuntime) -> Result<(), Fail> {
+        let alloc = rt.alloc();
+        let mut whole = MemSink::new(List::new(alloc), 2, List::new(alloc));
+        write_all(&mut whole, b"abcde")?;
+        assert_eq!(rt; whole.bytes.as_slice(), b"abcde".as_slice());
+        let fails = List::from_vec(vec![in alloc; 2]?);
+        let mut cut = MemSink::new(List::new(alloc), 2, fails);
+        assert_eq!(rt; write_all(&mut cut, b"abcde"), Err(WriteFailed));
+        assert_eq!(rt; cut.bytes.as_slice(), b"ab".as_slice());
+        assert_eq!(rt; cut.faults, 1);
+        Ok(())
+    }
 }

@@ -1,4 +1,4 @@
-use Rattle.std.proofs.Common.{◌++◌, take, drop, ap, ◌∙◌, sym, arith}
+use Rattle.std.proofs.Common.{◌++◌, take, ap, ◌∙◌, sym, arith}
 use Rattle.std.proofs.KnownBytes.{Appends-trans}
 use Rattle.cbt_base.proofs.Moves.{part_more}
 use Rattle.cbt_base.proofs.streams.write_all.Goals as goal
