@@ -4,12 +4,15 @@
 
 mod fault;
 mod fit;
+mod laws;
 mod printing;
 mod reading;
 mod rules;
+mod same;
 mod tree;
 mod value;
 
 pub use fault::JsonFault;
+pub use laws::text_reads_back;
 pub use tree::Tree;
 pub use value::Json;

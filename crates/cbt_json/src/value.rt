@@ -1,7 +1,8 @@
-ghost use Rattle.std.specs.Prelude.{◌≡◌, ◌↔◌, ◌⊎◌, true, Some, None, IsTrue, IfOk, IfSome, IfNone, IsErrOf, IsUtf8};
+ghost use Rattle.std.specs.Prelude.{◌≡◌, ◌↔◌, ◌⊎◌, true, [], Some, None, IsTrue, IfOk, IfSome, IfNone, IsErrOf, IsUtf8};
 ghost use Rattle.std.specs.Option.{IsSomeAnd};
 ghost use Rattle.serde_json.specs.Written.{has_float};
 ghost use Rattle.cbt_json.specs.declared.tree.Tree.{Tree};
+ghost use Rattle.cbt_json.specs.declared.tree.Tree.TheVariants.{Null, Object};
 ghost use Rattle.cbt_json.specs.Trees.{data_of, text_of};
 ghost use Rattle.cbt_json.specs.Rules.{IsJson, BodyFits};
 ghost use Rattle.cbt_json.specs.Reading.{reading, json_of};
@@ -12,7 +13,7 @@ use crate::printing::print;
 use crate::reading::parse;
 use crate::rules::{has_levels_within, is_regular_tree};
 use crate::tree::Tree;
-use cbt_base::{Duplicate, NoMemory, Text};
+use cbt_base::{Duplicate, List, NoMemory, Text};
 use std::alloc::Global;
 use std::marker::Model;
 
@@ -49,6 +50,21 @@ impl Model for Json {
 }
 
 impl Json {
+    pub fn null() -> Json
+        ensures { result ≡ Null }
+    {
+        Json { tree: Tree::Null }
+    }
+
+    /// The object without names; it takes no memory.
+    pub fn empty_object(alloc: Global) -> Json
+        ensures { result ≡ Object [] }
+    {
+        Json {
+            tree: Tree::Object(List::new(alloc)),
+        }
+    }
+
     /// The value of a tree that keeps the rules; it takes no memory.
     pub fn of(tree: Tree) -> Option<Json>
         ensures found { IfSome result (λ j. (j ≡ tree) × IsJson tree) }
