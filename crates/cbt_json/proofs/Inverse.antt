@@ -1,13 +1,11 @@
 -- A tree is given back by its data, and its data has no float.
-use Rattle.std.proofs.Common.{◌≡◌, ℕ, ℤ, pos, negsuc, List, [], ◌∷◌, map, Bool, true, false, ◌||◌, refl, sym, ap, ap₂, ◌∙◌, subst, rules}
-use Rattle.serde_json.specs.Data.{Num, unsigned, negative, float, Data, null, boolean, number, string, array, object, Items, no_items, item, Members, no_members, member}
+use Rattle.std.proofs.Common.{◌≡◌, ℕ, ℤ, pos, negsuc, List, [], ◌∷◌, map, false, ◌||◌, refl, sym, ap, ap₂, ◌∙◌, subst}
 use Rattle.serde_json.specs.Find.{is_float}
 use Rattle.serde_json.specs.Written.{has_float, items_have_float, members_have_float}
-use Rattle.cbt_json.specs.declared.tree.Tree.{Tree, roll-Tree, ind-Tree, map-Tree, the_lemmas}
+use Rattle.cbt_json.specs.declared.tree.Tree.{Tree, roll-Tree, ind-Tree, map-Tree}
 use Rattle.cbt_json.specs.declared.tree.Tree.TheVariants as t
 use Rattle.cbt_json.specs.declared.tree.Tree.TheOpen.{Tree-F}
-use Rattle.cbt_json.specs.Reading.{tree_of, trees_of, named_trees_of, whole_of, given, json_of}
-use Rattle.cbt_json.specs.Rules.{IsJson}
+use Rattle.cbt_json.specs.Reading.{tree_of, trees_of, named_trees_of, whole_of}
 use Rattle.cbt_json.specs.Trees.{data_of, items_data, members_data, number_of_whole}
 use Rattle.cbt_json.proofs.Views.{data_of-Null, data_of-Bool, data_of-Whole, data_of-Text, data_of-List, data_of-Object}
 

@@ -7,5 +7,4 @@ ghost use Rattle.cbt_json.specs.Reading.{json_of};
 /// A law: the text of a JSON value is that value.
 pub fn text_reads_back()
     ensures { (tree : Tree) → IsJson tree → json_of (text_of tree) ≡ Ok tree }
-{
-}
+{}

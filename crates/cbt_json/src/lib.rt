@@ -9,6 +9,8 @@ mod printing;
 mod reading;
 mod rules;
 mod same;
+#[cfg(test)]
+mod tests;
 mod tree;
 mod value;
 

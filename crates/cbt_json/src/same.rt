@@ -2,7 +2,6 @@ ghost use Rattle.std.specs.Prelude.{◌≡◌, ◌↔◌, IsTrue};
 ghost use Rattle.cbt_json.specs.Trees.{items_data, members_data};
 ghost use Rattle.cbt_json.specs.Same.{tree_eq, items_eq, members_eq};
 
-
 use crate::tree::Tree;
 use crate::value::Json;
 use cbt_base::Text;
