@@ -15,6 +15,6 @@ mod tree;
 mod value;
 
 pub use fault::JsonFault;
-pub use laws::text_reads_back;
+pub use laws::{reading_keeps_rules, text_reads_back};
 pub use tree::Tree;
 pub use value::Json;

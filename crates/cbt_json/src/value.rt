@@ -11,7 +11,7 @@ use crate::fault::JsonFault;
 use crate::fit::room_after;
 use crate::printing::print;
 use crate::reading::parse;
-use crate::rules::{has_levels_within, is_regular_tree};
+use crate::rules::is_regular_tree;
 use crate::tree::Tree;
 use cbt_base::{Duplicate, List, NoMemory, Text};
 use std::alloc::Global;
@@ -70,7 +70,7 @@ impl Json {
         ensures found { IfSome result (λ j. (j ≡ tree) × IsJson tree) }
         ensures none { IfNone result (¬ IsJson tree) }
     {
-        if has_levels_within(&tree, MAX_LEVELS) && is_regular_tree(&tree) {
+        if tree.has_levels_within(MAX_LEVELS) && is_regular_tree(&tree) {
             Some(Json { tree })
         } else {
             None
@@ -127,7 +127,7 @@ impl Json {
     {
         // A tree whose text fits is small, so its levels are counted last.
         room_after(&self.tree, MAX_BODY_BYTES).is_some()
-            && has_levels_within(&self.tree, MAX_BODY_LEVELS)
+            && self.tree.has_levels_within(MAX_BODY_LEVELS)
     }
 }
 
