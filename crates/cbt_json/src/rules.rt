@@ -22,9 +22,7 @@ fn levels_within(tree: &Tree, room: u32) -> bool
 {
     match tree {
         Tree::List(items) => room > 0 && items_within(items.as_slice(), room - 1),
-        Tree::Object(members) => {
-            room > 0 && members_within(members.as_slice(), room - 1)
-        }
+        Tree::Object(members) => { room > 0 && members_within(members.as_slice(), room - 1) }
         _ => true,
     }
 }
