@@ -1,13 +1,14 @@
 -- A tree is given back by its data, and its data has no float.
-use Rattle.std.proofs.Common.{◌≡◌, ℕ, ℤ, pos, negsuc, List, [], ◌∷◌, map, Bool, true, false, ◌||◌, refl, sym, ap, ap₂, ◌∙◌, subst, rules}
-use Rattle.serde_json.specs.Data.{Num, unsigned, negative, float, Data, null, boolean, number, string, array, object, Items, no_items, item, Members, no_members, member}
+use Rattle.std.proofs.Common.{◌≡◌, ℕ, ℤ, pos, negsuc, List, [], ◌∷◌, map, true, false, ◌||◌, refl, sym, ap, ap₂, ◌∙◌, subst}
+use Rattle.serde_json.specs.Data.{unsigned, negative, float, Data, null, boolean, number, string, array, object, Items, no_items, item, Members, no_members, member}
 use Rattle.serde_json.specs.Find.{is_float}
 use Rattle.serde_json.specs.Written.{has_float, items_have_float, members_have_float}
-use Rattle.cbt_json.specs.declared.tree.Tree.{Tree, roll-Tree, ind-Tree, map-Tree, the_lemmas}
+use Rattle.cbt_json.specs.declared.tree.Tree.{Tree, roll-Tree, ind-Tree, map-Tree}
 use Rattle.cbt_json.specs.declared.tree.Tree.TheVariants as t
 use Rattle.cbt_json.specs.declared.tree.Tree.TheOpen.{Tree-F}
-use Rattle.cbt_json.specs.Reading.{tree_of, trees_of, named_trees_of, whole_of, given, json_of}
-use Rattle.cbt_json.specs.Rules.{IsJson}
+use Rattle.std.proofs.lemmas.Bool.{and_parts}
+use Rattle.cbt_json.specs.Rules.{names_rise, is_regular, items_are_regular, members_are_regular}
+use Rattle.cbt_json.specs.Reading.{tree_of, trees_of, named_trees_of, whole_of}
 use Rattle.cbt_json.specs.Trees.{data_of, items_data, members_data, number_of_whole}
 use Rattle.cbt_json.proofs.Views.{data_of-Null, data_of-Bool, data_of-Whole, data_of-Text, data_of-List, data_of-Object}
 
@@ -72,3 +73,30 @@ floatless_level (Tree-F.Object es) =
 
 pub has_float-data_of : (x : Tree) → has_float (data_of x) ≡ false
 has_float-data_of = ind-Tree Floatless (λ x y is. subst (λ z. Floatless (roll-Tree z)) is (floatless_level y))
+
+-- ---- and the data by its tree, where it keeps the rules
+
+mutual
+  pub data_of-tree_of : (d : Data) → is_regular d ≡ true → data_of (tree_of d) ≡ d
+  data_of-tree_of null h = data_of-Null
+  data_of-tree_of (boolean b) h = data_of-Bool b
+  data_of-tree_of (number (unsigned n)) h = data_of-Whole (pos n)
+  data_of-tree_of (number (negative (pos n))) h = absurd (cc)
+  data_of-tree_of (number (negative (negsuc n))) h = data_of-Whole (negsuc n)
+  data_of-tree_of (number (float x)) h = absurd (cc)
+  data_of-tree_of (string s) h = data_of-Text s
+  data_of-tree_of (array ds) h = data_of-List (trees_of ds) ∙ ap array (items_data-trees_of ds h)
+  data_of-tree_of (object ms) h =
+      data_of-Object (named_trees_of ms) ∙ ap object (members_data-named_trees_of ms (and_parts (names_rise ms) (members_are_regular ms) h).1)
+
+  items_data-trees_of : (ds : Items) → items_are_regular ds ≡ true → items_data (trees_of ds) ≡ ds
+  items_data-trees_of no_items h = refl
+  items_data-trees_of (item d ds) h =
+      let p = and_parts (is_regular d) (items_are_regular ds) h in
+      ap₂ item (data_of-tree_of d p.0) (items_data-trees_of ds p.1)
+
+  members_data-named_trees_of : (ms : Members) → members_are_regular ms ≡ true → members_data (named_trees_of ms) ≡ ms
+  members_data-named_trees_of no_members h = refl
+  members_data-named_trees_of (member k d ms) h =
+      let p = and_parts (is_regular d) (members_are_regular ms) h in
+      ap₂ (member k) (data_of-tree_of d p.0) (members_data-named_trees_of ms p.1)

@@ -6,3 +6,4 @@ pub mod Proper
 pub mod Inverse
 pub mod Again
 pub mod Read
+pub mod Alike

@@ -3,3 +3,4 @@ pub mod Rules
 pub mod Fit
 pub mod Tokens
 pub mod Reading
+pub mod Same

@@ -4,12 +4,17 @@
 
 mod fault;
 mod fit;
+mod laws;
 mod printing;
 mod reading;
 mod rules;
+mod same;
+#[cfg(test)]
+mod tests;
 mod tree;
 mod value;
 
 pub use fault::JsonFault;
+pub use laws::{reading_keeps_rules, text_reads_back};
 pub use tree::Tree;
 pub use value::Json;

@@ -67,10 +67,7 @@ fn items_of_values(alloc: Global, values: &Vec<Value>) -> Result<List<Tree>, Jso
 }
 
 #[cycle(reading)]
-fn members_of_map(
-    alloc: Global,
-    map: &Map<String, Value>,
-) -> Result<List<(Text, Tree)>, JsonFault>
+fn members_of_map(alloc: Global, map: &Map<String, Value>) -> Result<List<(Text, Tree)>, JsonFault>
     ensures ok { IfOk result (λ members. members_data members ≡ members_view map.now.entries) }
     ensures not_json { ¬ IsErrOf result JsonFault.NotJson }
     ensures not_whole { IsErrOf result JsonFault.NotWhole

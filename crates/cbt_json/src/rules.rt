@@ -1,4 +1,4 @@
-ghost use Rattle.std.specs.Prelude.{◌≡◌, nat_le, List};
+ghost use Rattle.std.specs.Prelude.{◌≡◌, ◌↔◌, ◌≤◌, nat_le, IsTrue};
 ghost use Rattle.serde_json.specs.Data.{members_depth, items_depth};
 ghost use Rattle.cbt_json.specs.Trees.{data_of, levels, items_data, members_data};
 ghost use Rattle.cbt_json.specs.Rules.{is_in_range, is_regular, names_rise, items_are_regular, members_are_regular};
@@ -6,26 +6,33 @@ ghost use Rattle.cbt_json.specs.Rules.{is_in_range, is_regular, names_rise, item
 use crate::tree::Tree;
 use cbt_base::Text;
 
-/// Whether lists and objects nest at most `room` deep; it goes no deeper than that.
+impl Tree {
+    /// Whether the tree has at most `room` levels of lists and objects. It goes no deeper than that,
+    /// and takes no memory.
+    pub fn has_levels_within(&self, room: u32) -> bool
+        ensures { IsTrue result ↔ (levels self.now ≤ room) }
+    {
+        levels_within(self, room)
+    }
+}
+
 #[cycle(levels)]
-pub(crate) fn has_levels_within(tree: &Tree, room: u32) -> bool
+fn levels_within(tree: &Tree, room: u32) -> bool
     ensures { result ≡ nat_le (levels tree.now) room }
 {
     match tree {
-        Tree::List(items) => room > 0 && items_have_levels_within(items.as_slice(), room - 1),
-        Tree::Object(members) => {
-            room > 0 && members_have_levels_within(members.as_slice(), room - 1)
-        }
+        Tree::List(items) => room > 0 && items_within(items.as_slice(), room - 1),
+        Tree::Object(members) => { room > 0 && members_within(members.as_slice(), room - 1) }
         _ => true,
     }
 }
 
 #[cycle(levels)]
-fn items_have_levels_within(items: &[Tree], room: u32) -> bool
+fn items_within(items: &[Tree], room: u32) -> bool
     ensures { result ≡ nat_le (items_depth (items_data items.now)) room }
 {
     for item in items {
-        if !has_levels_within(item, room) {
+        if !levels_within(item, room) {
             return false;
         }
     }
@@ -33,11 +40,11 @@ fn items_have_levels_within(items: &[Tree], room: u32) -> bool
 }
 
 #[cycle(levels)]
-fn members_have_levels_within(members: &[(Text, Tree)], room: u32) -> bool
+fn members_within(members: &[(Text, Tree)], room: u32) -> bool
     ensures { result ≡ nat_le (members_depth (members_data members.now)) room }
 {
     for (_, value) in members {
-        if !has_levels_within(value, room) {
+        if !levels_within(value, room) {
             return false;
         }
     }

@@ -1,7 +1,8 @@
-ghost use Rattle.std.specs.Prelude.{◌≡◌, ◌↔◌, ◌⊎◌, true, Some, None, IsTrue, IfOk, IfSome, IfNone, IsErrOf, IsUtf8};
+ghost use Rattle.std.specs.Prelude.{◌≡◌, ◌↔◌, ◌⊎◌, true, [], Some, None, IsTrue, IfOk, IfSome, IfNone, IsErrOf, IsUtf8};
 ghost use Rattle.std.specs.Option.{IsSomeAnd};
 ghost use Rattle.serde_json.specs.Written.{has_float};
 ghost use Rattle.cbt_json.specs.declared.tree.Tree.{Tree};
+ghost use Rattle.cbt_json.specs.declared.tree.Tree.TheVariants.{Null, Object};
 ghost use Rattle.cbt_json.specs.Trees.{data_of, text_of};
 ghost use Rattle.cbt_json.specs.Rules.{IsJson, BodyFits};
 ghost use Rattle.cbt_json.specs.Reading.{reading, json_of};
@@ -10,9 +11,9 @@ use crate::fault::JsonFault;
 use crate::fit::room_after;
 use crate::printing::print;
 use crate::reading::parse;
-use crate::rules::{has_levels_within, is_regular_tree};
+use crate::rules::is_regular_tree;
 use crate::tree::Tree;
-use cbt_base::{Duplicate, NoMemory, Text};
+use cbt_base::{Duplicate, List, NoMemory, Text};
 use std::alloc::Global;
 use std::marker::Model;
 
@@ -49,12 +50,27 @@ impl Model for Json {
 }
 
 impl Json {
+    pub fn null() -> Json
+        ensures { result ≡ Null }
+    {
+        Json { tree: Tree::Null }
+    }
+
+    /// The object without names; it takes no memory.
+    pub fn empty_object(alloc: Global) -> Json
+        ensures { result ≡ Object [] }
+    {
+        Json {
+            tree: Tree::Object(List::new(alloc)),
+        }
+    }
+
     /// The value of a tree that keeps the rules; it takes no memory.
     pub fn of(tree: Tree) -> Option<Json>
         ensures found { IfSome result (λ j. (j ≡ tree) × IsJson tree) }
         ensures none { IfNone result (¬ IsJson tree) }
     {
-        if has_levels_within(&tree, MAX_LEVELS) && is_regular_tree(&tree) {
+        if tree.has_levels_within(MAX_LEVELS) && is_regular_tree(&tree) {
             Some(Json { tree })
         } else {
             None
@@ -111,7 +127,7 @@ impl Json {
     {
         // A tree whose text fits is small, so its levels are counted last.
         room_after(&self.tree, MAX_BODY_BYTES).is_some()
-            && has_levels_within(&self.tree, MAX_BODY_LEVELS)
+            && self.tree.has_levels_within(MAX_BODY_LEVELS)
     }
 }
 

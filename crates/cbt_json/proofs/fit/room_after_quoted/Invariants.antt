@@ -1,4 +1,4 @@
-use Rattle.std.proofs.Common.{◌≡◌, ◌+◌, drop, length}
+use Rattle.std.proofs.Common.{◌≡◌, drop, length}
 use Rattle.json.specs.Print.{escape, quoted}
 use Rattle.cbt_json.specs.Fit.{left_of}
 use Rattle.cbt_json.proofs.fit.room_after_quoted.Given as goal

@@ -1,4 +1,4 @@
-use Rattle.std.proofs.Common.{◌≡◌, ◌∙◌, ap, sym, ◌++◌}
+use Rattle.std.proofs.Common.{◌∙◌, ap, sym, ◌++◌}
 use Rattle.cbt_json.specs.Trees.{members_data}
 use Rattle.cbt_json.proofs.Values.{read_pairs, tree_pairs, members_read}
 use Rattle.cbt_json.proofs.reading.+reading.Goals as goal
