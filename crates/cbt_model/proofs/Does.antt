@@ -2,7 +2,7 @@
 use Rattle.std.proofs.Common.{◌≡◌, ℕ, Bool, true, false, cond, nat_eq, List, Option, Some, None, refl, arith}
 use Rattle.std.proofs.lemmas.Grind.{common_steps}
 use Rattle.cbt_base.specs.Keyed.{with_pair}
-use Rattle.cbt_json.specs.declared.Json.{Json}
+use Rattle.cbt_json.specs.declared.value.Json.{Json}
 use Rattle.cbt_model.specs.Attributes.{no_attributes, kept_attributes}
 use Rattle.cbt_model.specs.History.{is_done}
 use Rattle.cbt_model.specs.Keys.{id_cmp, doc_at, entry_at}

@@ -10,7 +10,7 @@ use Rattle.std.specs.Ordering.{nat_cmp, ordering_then, is_eq}
 use Rattle.cbt_base.specs.Clock.{clock_mutated}
 use Rattle.cbt_base.specs.Keyed.{Rises, with_pair}
 use Rattle.cbt_base.specs.declared.memory.NoMemory.{NoMemory}
-use Rattle.cbt_json.specs.declared.Json.{Json}
+use Rattle.cbt_json.specs.declared.value.Json.{Json}
 use Rattle.cbt_model.specs.Fitting.{body_fits_maybe, stage_fits, stage_fits_maybe, doc_fits, is_above, ids_rise, ids_rise_from, step_fits, fits, fits_read_doc, fits_stage, fits_unstage, fits_read_entry, fits_add_entry, fits_decide, fits_drop, fits_drop_entry, HasFitBodies}
 use Rattle.cbt_model.specs.History.{outcome, happens, happens_maybe, after, by_fate, row_at_event}
 use Rattle.cbt_model.specs.Keys.{IsOrdered, doc_cmp, entry_cmp, id_cmp, doc_at, entry_at}

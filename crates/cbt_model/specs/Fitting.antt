@@ -1,7 +1,7 @@
 -- Which steps may be sent, and which replies may come back: a reply's kind stands in its step's row of the table.
 use Rattle.std.specs.Prelude.{◌≡◌, ℕ, Bool, true, false, ◌&&◌, nat_lt, nat_le, List, [], ◌∷◌, length, Option, Some, None}
-use Rattle.cbt_json.specs.Body.{body_fits_of}
-use Rattle.cbt_json.specs.declared.Json.{Json}
+use Rattle.cbt_model.specs.Bodies.{body_fits_of}
+use Rattle.cbt_json.specs.declared.value.Json.{Json}
 use Rattle.cbt_model.specs.Keys.{doc_at}
 use Rattle.cbt_model.specs.declared.documents.DocState.{DocState}
 use Rattle.cbt_model.specs.declared.documents.OpKind.{OpKind}

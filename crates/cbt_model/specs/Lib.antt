@@ -1,4 +1,5 @@
 pub mod Attributes
+pub mod Bodies
 pub mod Faults
 pub mod Fitting
 pub mod History

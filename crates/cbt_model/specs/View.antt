@@ -1,7 +1,7 @@
 -- What documents resolve to. It looks at a document and at an entry at once, as no step can.
 use Rattle.std.specs.Prelude.{ℕ, ◌+◌, ◌<◌, Bool, true, false, if◌then◌else◌, List, Option, Some, None}
 use Rattle.cbt_base.specs.Clock.{ms_of}
-use Rattle.cbt_json.specs.declared.Json.{Json}
+use Rattle.cbt_json.specs.declared.value.Json.{Json}
 use Rattle.cbt_model.specs.Keys.{doc_at, entry_at}
 use Rattle.cbt_model.specs.declared.documents.DocState.{DocState}
 use Rattle.cbt_model.specs.declared.documents.Stage.{Stage}

@@ -1,5 +1,6 @@
 //! Which steps may be sent to a node, and which replies may come back.
 ghost use Rattle.std.specs.Prelude.{◌≡◌, None, length};
+ghost use Rattle.cbt_model.specs.Bodies.{body_fits_of};
 ghost use Rattle.cbt_model.specs.Fitting.{body_fits_maybe, stage_fits, stage_fits_maybe, step_fits, is_above, ids_rise, fits, fits_read_doc, fits_stage, fits_unstage, fits_read_entry, fits_add_entry, fits_decide, fits_drop_entry, fits_read_atr, fits_read_clients, fits_beat};
 
 use crate::documents::{OpKind, Stage};
@@ -19,7 +20,7 @@ pub fn step_fits(step: &Step) -> bool
 {
     match step {
         Step::Stage { stage, .. } => stage_fits(stage),
-        Step::Publish { body, .. } => body.body_fits(),
+        Step::Publish { body, .. } => body_fits(body),
         Step::Beat { gone, .. } => gone.len() <= MAX_GONE,
         Step::ReadDoc { .. }
         | Step::Delete { .. }
@@ -56,12 +57,19 @@ pub fn fits(step: &Step, reply: &Reply) -> bool
     }
 }
 
+// Whether a value may be a body.
+fn body_fits(body: &Json) -> bool
+    ensures { result ≡ body_fits_of body.now }
+{
+    body.body_fits()
+}
+
 fn stage_fits(stage: &Stage) -> bool
     ensures { result ≡ stage_fits stage.now }
 {
     match (&stage.kind, &stage.content) {
         (OpKind::Remove, None) => true,
-        (OpKind::Insert | OpKind::Replace, Some(content)) => content.body_fits(),
+        (OpKind::Insert | OpKind::Replace, Some(content)) => body_fits(content),
         (OpKind::Remove, Some(_)) | (OpKind::Insert | OpKind::Replace, None) => false,
     }
 }
@@ -71,7 +79,7 @@ fn body_fits_maybe(body: &Option<Json>) -> bool
 {
     match body {
         None => true,
-        Some(body) => body.body_fits(),
+        Some(body) => body_fits(body),
     }
 }
 

@@ -217,7 +217,7 @@ fn stage_new(
     let set = DocState {
         cas: next_cas(state, reading),
         body: None,
-        attrs: no_attributes(alloc)?,
+        attrs: no_attributes(alloc),
         stage: Some(stage.copy(alloc)?),
     };
     set_doc(alloc, state, reading, doc, set)
