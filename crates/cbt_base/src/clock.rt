@@ -80,7 +80,7 @@ pub fn stamp_is_above_all_earlier()
 {}
 
 /// Where readings in milliseconds come from. It cannot fail.
-pub trait Clock {
+pub trait Clock: Drop {
     /// It may tell its readings: it stands for this sequence of readings to come.
     ghost due: { Self → (ℕ → ℕ) → Type 0 };
 

@@ -102,6 +102,7 @@ module _ (s : State) (c : ℕ) where
 
   -- each row of the table is one of these
   pub does : (st : Step) → Does s c st (row s c st)
+  unfolding row
   does (step.ReadDoc d) = does_read_doc d (doc_at s d)
   does (step.Stage d e stage) = does_stage d e stage (doc_at s d) refl
   does (step.Publish d x body) = does_publish d x body (doc_at s d) refl

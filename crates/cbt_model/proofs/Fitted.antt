@@ -140,6 +140,7 @@ fits-read_doc_row s d fit (Some x) at = fit.each d x at
 
 -- what the table answers fits the step
 pub fits-row : (s : State) (c : ℕ) (st : Step) → IsOrdered s → HasFitBodies s → fits st (row s c st).reply ≡ true
+unfolding row
 fits-row s c (step.ReadDoc d) ordered fit = fits-read_doc_row s d fit (doc_at s d) refl
 fits-row s c (step.Stage d e stage) ordered fit = fits-stage_row c d e stage (doc_at s d)
 fits-row s c (step.Publish d x body) ordered fit = fits-publish_row c d x body (doc_at s d)

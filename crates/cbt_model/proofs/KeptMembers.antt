@@ -59,6 +59,7 @@ kept-rise (m ∷ ms) rise = go (begins_with_underscore m.0) (kept-rise ms parts.
   where
     parts : (rises_from m.0 (members_data ms) ≡ true) × (names_rise (members_data ms) ≡ true)
     parts = both_true (rises_from m.0 (members_data ms)) (names_rise (members_data ms)) rise
+
     go : (b : Bool) → names_rise (members_data (kept_members ms)) ≡ true → names_rise (members_data (cond b (m ∷ kept_members ms) (kept_members ms))) ≡ true
     go true tail = true_both _ _ (above-kept m.0 ms (above-all m.0 ms parts.0 parts.1)) tail
     go false tail = tail
@@ -69,6 +70,7 @@ kept-regular (m ∷ ms) regular = go (begins_with_underscore m.0) (kept-regular 
   where
     parts : (is_regular (data_of m.1) ≡ true) × (members_are_regular (members_data ms) ≡ true)
     parts = both_true (is_regular (data_of m.1)) (members_are_regular (members_data ms)) regular
+
     go : (b : Bool) → members_are_regular (members_data (kept_members ms)) ≡ true
         → members_are_regular (members_data (cond b (m ∷ kept_members ms) (kept_members ms))) ≡ true
     go true tail = true_both _ _ parts.0 tail

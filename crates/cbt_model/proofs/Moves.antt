@@ -103,9 +103,9 @@ module _ (s : State) (c r : ℕ) (k : ℕ × ℕ) where
       → EntryMove s c st k (entry_at (changed s r (SetsEntry key e)) k)
   set_entry st key e is here = ⊎_elim
       (λ (l : (is_eq (entry_cmp k key) ≡ true) × (k ≡ key)).
-        here l.1 _ (ap (λ q. entry_at (changed s r (SetsEntry key e)) q) l.1 ∙ set_there entry_order s.entries key e))
+      here l.1 _ (ap (λ q. entry_at (changed s r (SetsEntry key e)) q) l.1 ∙ set_there entry_order s.entries key e))
       (λ (n : (is_eq (entry_cmp k key) ≡ false) × (k ≢ key)).
-        same (λ q. n.1 (some_same k key (sym q ∙ is))) (set_elsewhere entry_order s.entries key k e n.1))
+      same (λ q. n.1 (some_same k key (sym q ∙ is))) (set_elsewhere entry_order s.entries key k e n.1))
       (key_cases entry_order k key)
 
   drop_entry : (st : Step) (key : ℕ × ℕ) → IsOrdered s → touches st ≡ Some key
@@ -113,9 +113,9 @@ module _ (s : State) (c r : ℕ) (k : ℕ × ℕ) where
       → EntryMove s c st k (entry_at (changed s r (DropsEntry key)) k)
   drop_entry st key ordered is here = ⊎_elim
       (λ (l : (is_eq (entry_cmp k key) ≡ true) × (k ≡ key)).
-        here l.1 _ (ap (λ q. entry_at (changed s r (DropsEntry key)) q) l.1 ∙ gone_there entry_order s.entries key ordered.entries))
+      here l.1 _ (ap (λ q. entry_at (changed s r (DropsEntry key)) q) l.1 ∙ gone_there entry_order s.entries key ordered.entries))
       (λ (n : (is_eq (entry_cmp k key) ≡ false) × (k ≢ key)).
-        same (λ q. n.1 (some_same k key (sym q ∙ is))) (gone_elsewhere entry_order s.entries key k ordered.entries n.1))
+      same (λ q. n.1 (some_same k key (sym q ∙ is))) (gone_elsewhere entry_order s.entries key k ordered.entries n.1))
       (key_cases entry_order k key)
 
   untouched : (st : Step) → touches st ≡ None → EntryMove s c st k (entry_at s k)
@@ -149,9 +149,9 @@ module _ (s : State) (c r : ℕ) (d : List ℕ) where
       → DocMove s c st d (doc_at (changed s r (SetsDoc key x)) d)
   set_doc st key x is here = ⊎_elim
       (λ (l : (is_eq (doc_cmp d key) ≡ true) × (d ≡ key)).
-        here l.1 _ (ap (λ q. doc_at (changed s r (SetsDoc key x)) q) l.1 ∙ set_there doc_order s.docs key x))
+      here l.1 _ (ap (λ q. doc_at (changed s r (SetsDoc key x)) q) l.1 ∙ set_there doc_order s.docs key x))
       (λ (n : (is_eq (doc_cmp d key) ≡ false) × (d ≢ key)).
-        same (λ q. n.1 (some_same d key (sym q ∙ is))) (set_elsewhere doc_order s.docs key d x n.1))
+      same (λ q. n.1 (some_same d key (sym q ∙ is))) (set_elsewhere doc_order s.docs key d x n.1))
       (key_cases doc_order d key)
 
   untouched_doc : (st : Step) → touches_doc st ≡ None → DocMove s c st d (doc_at s d)

@@ -128,7 +128,7 @@ beat_row c me expires num_atrs gone rows =
     takes c (SetsClients (without_gone me gone (with_pair id_cmp rows me (record { heartbeat = c; expires = expires; num_atrs = num_atrs }))))
 
 -- the row of the table that a step meets at a state; c is the stamp of a change made now
-abbrev pub row : State → ℕ → Step → Row
+unfoldable pub row : State → ℕ → Step → Row
 row s c (step.ReadDoc doc) = read_doc_row (doc_at s doc)
 row s c (step.Stage doc expect stage) = stage_row c doc expect stage (doc_at s doc)
 row s c (step.Publish doc x body) = publish_row c doc x body (doc_at s doc)

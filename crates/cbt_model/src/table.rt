@@ -3,8 +3,8 @@ ghost use Rattle.std.specs.Prelude.{◌≡◌, ◌+◌, ◌-◌, ◌^◌, ◌<�
 ghost use Rattle.cbt_base.specs.Clock.{clock_read, clock_mutated};
 ghost use Rattle.cbt_base.specs.Keyed.{with_pair};
 ghost use Rattle.cbt_model.specs.Fitting.{fits, step_fits, HasFitBodies};
-ghost use Rattle.cbt_model.specs.Keys.{IsOrdered, entry_at, id_cmp};
-ghost use Rattle.cbt_model.specs.Table.{SetsDoc, SetsEntry, DropsEntry, SetsClients, refused, takes, made, apply_to, decide_row, entries_of, without_gone};
+ghost use Rattle.cbt_model.specs.Keys.{IsOrdered, doc_at, entry_at, id_cmp};
+ghost use Rattle.cbt_model.specs.Table.{SetsDoc, SetsEntry, DropsEntry, SetsClients, refused, takes, made, apply_to, read_doc_row, stage_row, publish_row, delete_row, unstick_row, read_entry_row, add_entry_row, decide_row, drop_entry_row, entries_of, without_gone};
 
 use crate::attributes::{kept_attributes, no_attributes};
 use crate::documents::{DocState, Stage};
@@ -40,6 +40,7 @@ fn have_rising_keys(state: &State)
 }
 
 // Makes a step by its row of the table.
+#[tactic(auto, unfolding(crate::specs::Table::row))]
 fn take_step(alloc: Global, state: &mut State, reading: u64, step: &Step) -> Result<Reply, NoMemory>
     requires { state.old.last < 2 ^ 64 - 65537 }
     ensures row { IfOk result (λ reply. (state.new, reply) ≡ apply_to state.old reading step.now) }
@@ -179,7 +180,7 @@ fn set_entry(
 // Shows a document.
 fn read_doc(alloc: Global, state: &mut State, reading: u64, doc: &DocId) -> Result<Reply, NoMemory>
     requires { state.old.last < 2 ^ 64 - 65537 }
-    ensures row { IfOk result (λ reply. (state.new, reply) ≡ apply_to state.old reading (Step.ReadDoc doc.now)) }
+    ensures row { IfOk result (λ reply. (state.new, reply) ≡ made state.old reading (read_doc_row (doc_at state.old doc.now))) }
     ensures refused { OnErr result (state.new ≡ state.old) }
     ensures clock { state.new.last ≤ max (state.old.last + 1) (2 ^ 63) }
 {
@@ -207,7 +208,7 @@ fn stage_new(
     stage: &Stage,
 ) -> Result<Reply, NoMemory>
     requires { state.old.last < 2 ^ 64 - 65537 }
-    ensures row { IfOk result (λ reply. (state.new, reply) ≡ apply_to state.old reading (Step.Stage doc.now Expect.New stage.now)) }
+    ensures row { IfOk result (λ reply. (state.new, reply) ≡ made state.old reading (stage_row (clock_mutated state.old.last reading) doc.now Expect.New stage.now (doc_at state.old doc.now))) }
     ensures refused { OnErr result (state.new ≡ state.old) }
     ensures clock { state.new.last ≤ max (state.old.last + 1) (2 ^ 63) }
 {
@@ -233,7 +234,7 @@ fn stage_over(
     stage: &Stage,
 ) -> Result<Reply, NoMemory>
     requires { state.old.last < 2 ^ 64 - 65537 }
-    ensures row { IfOk result (λ reply. (state.new, reply) ≡ apply_to state.old reading (Step.Stage doc.now (Expect.Cas cas) stage.now)) }
+    ensures row { IfOk result (λ reply. (state.new, reply) ≡ made state.old reading (stage_row (clock_mutated state.old.last reading) doc.now (Expect.Cas cas) stage.now (doc_at state.old doc.now))) }
     ensures refused { OnErr result (state.new ≡ state.old) }
     ensures clock { state.new.last ≤ max (state.old.last + 1) (2 ^ 63) }
 {
@@ -265,7 +266,7 @@ fn publish(
     body: &Json,
 ) -> Result<Reply, NoMemory>
     requires { state.old.last < 2 ^ 64 - 65537 }
-    ensures row { IfOk result (λ reply. (state.new, reply) ≡ apply_to state.old reading (Step.Publish doc.now cas body.now)) }
+    ensures row { IfOk result (λ reply. (state.new, reply) ≡ made state.old reading (publish_row (clock_mutated state.old.last reading) doc.now cas body.now (doc_at state.old doc.now))) }
     ensures refused { OnErr result (state.new ≡ state.old) }
     ensures clock { state.new.last ≤ max (state.old.last + 1) (2 ^ 63) }
 {
@@ -296,7 +297,7 @@ fn delete(
     cas: u64,
 ) -> Result<Reply, NoMemory>
     requires { state.old.last < 2 ^ 64 - 65537 }
-    ensures row { IfOk result (λ reply. (state.new, reply) ≡ apply_to state.old reading (Step.Delete doc.now cas)) }
+    ensures row { IfOk result (λ reply. (state.new, reply) ≡ made state.old reading (delete_row (clock_mutated state.old.last reading) doc.now cas (doc_at state.old doc.now))) }
     ensures refused { OnErr result (state.new ≡ state.old) }
     ensures clock { state.new.last ≤ max (state.old.last + 1) (2 ^ 63) }
 {
@@ -327,7 +328,7 @@ fn unstick(
     cas: u64,
 ) -> Result<Reply, NoMemory>
     requires { state.old.last < 2 ^ 64 - 65537 }
-    ensures row { IfOk result (λ reply. (state.new, reply) ≡ apply_to state.old reading (Step.Unstick doc.now cas)) }
+    ensures row { IfOk result (λ reply. (state.new, reply) ≡ made state.old reading (unstick_row (clock_mutated state.old.last reading) doc.now cas (doc_at state.old doc.now))) }
     ensures refused { OnErr result (state.new ≡ state.old) }
     ensures clock { state.new.last ≤ max (state.old.last + 1) (2 ^ 63) }
 {
@@ -357,7 +358,7 @@ fn read_entry(
     key: (u16, Id),
 ) -> Result<Reply, NoMemory>
     requires { state.old.last < 2 ^ 64 - 65537 }
-    ensures row { IfOk result (λ reply. (state.new, reply) ≡ apply_to state.old reading (Step.ReadEntry key.0 key.1)) }
+    ensures row { IfOk result (λ reply. (state.new, reply) ≡ made state.old reading (read_entry_row (entry_at state.old key))) }
     ensures refused { OnErr result (state.new ≡ state.old) }
     ensures clock { state.new.last ≤ max (state.old.last + 1) (2 ^ 63) }
 {
@@ -377,7 +378,7 @@ fn add_entry(
     exp: u64,
 ) -> Result<Reply, NoMemory>
     requires { state.old.last < 2 ^ 64 - 65537 }
-    ensures row { IfOk result (λ reply. (state.new, reply) ≡ apply_to state.old reading (Step.AddEntry key.0 key.1 exp)) }
+    ensures row { IfOk result (λ reply. (state.new, reply) ≡ made state.old reading (add_entry_row (clock_mutated state.old.last reading) key exp (entry_at state.old key))) }
     ensures refused { OnErr result (state.new ≡ state.old) }
     ensures clock { state.new.last ≤ max (state.old.last + 1) (2 ^ 63) }
 {
@@ -432,7 +433,7 @@ fn decide(
 // Removes an entry, if guarded only a pending one. It takes no memory.
 fn drop_entry(state: &mut State, reading: u64, key: (u16, Id), guarded: bool) -> Reply
     requires { state.old.last < 2 ^ 64 - 65537 }
-    ensures row { (state.new, result) ≡ apply_to state.old reading (Step.DropEntry key.0 key.1 guarded) }
+    ensures row { (state.new, result) ≡ made state.old reading (drop_entry_row (clock_mutated state.old.last reading) key guarded (entry_at state.old key)) }
     ensures clock { state.new.last ≤ max (state.old.last + 1) (2 ^ 63) }
 {
     let reply = match state.entries.get(&key) {
@@ -465,7 +466,7 @@ fn remove_entry(state: &mut State, reading: u64, key: (u16, Id)) -> Reply
 // Shows the entries of a transaction record.
 fn read_atr(alloc: Global, state: &mut State, reading: u64, atr: u16) -> Result<Reply, NoMemory>
     requires { state.old.last < 2 ^ 64 - 65537 }
-    ensures row { IfOk result (λ reply. (state.new, reply) ≡ apply_to state.old reading (Step.ReadAtr atr)) }
+    ensures row { IfOk result (λ reply. (state.new, reply) ≡ made state.old reading (refused (Reply.Entries (entries_of atr state.old.entries)))) }
     ensures refused { OnErr result (state.new ≡ state.old) }
     ensures clock { state.new.last ≤ max (state.old.last + 1) (2 ^ 63) }
 {
@@ -493,7 +494,7 @@ fn entries_of(
 // Shows the client record.
 fn read_clients(alloc: Global, state: &mut State, reading: u64) -> Result<Reply, NoMemory>
     requires { state.old.last < 2 ^ 64 - 65537 }
-    ensures row { IfOk result (λ reply. (state.new, reply) ≡ apply_to state.old reading Step.ReadClients) }
+    ensures row { IfOk result (λ reply. (state.new, reply) ≡ made state.old reading (refused (Reply.Clients state.old.clients))) }
     ensures refused { OnErr result (state.new ≡ state.old) }
     ensures clock { state.new.last ≤ max (state.old.last + 1) (2 ^ 63) }
 {

@@ -1,0 +1,10 @@
+//! The typed node: a state, changed by the step table, with the history of its calls.
+#![tactic(auto)]
+
+mod counts;
+mod outcomes;
+mod plain;
+mod readings;
+
+pub use outcomes::perform;
+pub use plain::Plain;
