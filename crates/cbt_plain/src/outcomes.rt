@@ -1,7 +1,8 @@
 //! What becomes of one event.
 
-ghost use Rattle.std.specs.Prelude.{◌≡◌, ◌+◌, ◌-◌, ◌^◌, ◌<◌, ◌≤◌, max, IfOk, OnErr};
+ghost use Rattle.std.specs.Prelude.{◌≡◌, ◌+◌, ◌-◌, ◌^◌, ◌<◌, ◌≤◌, max, IsTrue, IfOk, OnErr};
 ghost use Rattle.cbt_base.specs.Clock.{clock_read};
+ghost use Rattle.cbt_model.specs.Fitting.{HasFitBodies, fits, step_fits};
 ghost use Rattle.cbt_model.specs.History.{happens, outcome};
 
 use cbt_base::{Hlc, NoMemory};
@@ -18,6 +19,8 @@ pub fn perform(alloc: Global, state: &mut State, event: &Event) -> Result<Reply,
     ensures reply { IfOk result (λ reply. reply ≡ (outcome state.old event.now).reply) }
     ensures refused { OnErr result (state.new ≡ state.old) }
     ensures clock { state.new.last ≤ max (state.old.last + 1) (2 ^ 63) }
+    ensures fits { HasFitBodies state.old → IfOk result (λ reply. IsTrue (fits event.now.step reply)) }
+    ensures bodies { HasFitBodies state.old → IsTrue (step_fits event.now.step) → HasFitBodies state.new }
 {
     match event.fate {
         Fate::Plain => apply(alloc, state, event.reading, &event.step),

@@ -2,6 +2,7 @@ ghost use Rattle.std.specs.Prelude.{◌≡◌, ℕ, ◌+◌, ◌-◌, ◌^◌, �
 
 ghost use Rattle.cbt_base.specs.Clock.{held};
 ghost use Rattle.cbt_plain.specs.Counts.{count_of};
+ghost use Rattle.cbt_model.specs.Fitting.{HasFitBodies};
 ghost use Rattle.cbt_model.specs.History.{after};
 ghost use Rattle.cbt_model.specs.Legal.{KeepsTerms, ahead_at, calls_below};
 
@@ -11,7 +12,7 @@ use std::alloc::Global;
 
 use crate::counts::{next_number, set_number};
 use crate::outcomes::perform;
-use crate::readings::{line_reading, raw_reading};
+use crate::readings::next_reading;
 
 /// The most events that a history has.
 const MAX_EVENTS: u64 = 1 << 62;
@@ -34,6 +35,7 @@ pub struct Plain<C: Clock> {
     calls: Map<u32, u64>,
     alloc: Global,
     ghost stands: { state ≡ after opening history (length history) },
+    ghost fit: { HasFitBodies state },
     ghost within: { state.last ≤ 2 ^ 63 + length history },
     ghost short: { length history ≤ 2 ^ 62 },
     ghost counted: { (actor : ℕ) → count_of calls actor ≡ calls_below history actor (length history) },
@@ -44,12 +46,15 @@ pub struct Plain<C: Clock> {
 impl<C: Clock> Plain<C> {
     ghost use Rattle.std.specs.Prelude.{◌≡◌, ℕ, ◌+◌, ◌-◌, ◌^◌, ◌≤◌, [], length, IfOk};
     ghost use Rattle.cbt_base.specs.Clock.{clock_of};
+    ghost use Rattle.cbt_model.specs.Fitting.{HasFitBodies, HasFitAttributes};
     ghost use Rattle.cbt_model.specs.History.{after};
 
     /// A node that no call was made on yet, over an opening state, the calls that are to fail, the
     /// clock line of a script, and a clock that is read where there is no such line.
     pub fn new(alloc: Global, opening: State, faults: Faults, line: Option<(u64, u64)>, clock: C) -> Result<Plain<C>, NoMemory>
-        requires { opening.last ≤ clock_of (2 ^ 43 - 1) + 2 ^ 32 }
+        requires last { opening.last ≤ clock_of (2 ^ 43 - 1) + 2 ^ 32 }
+        requires bodies { HasFitBodies opening }
+        requires attributes { HasFitAttributes opening }
         ensures opening { IfOk result (λ node. ⟦<Plain<C> as Node>⟧.opening node ≡ opening) }
         ensures history { IfOk result (λ node. ⟦<Plain<C> as Node>⟧.history node ≡ []) }
         ensures marks { IfOk result (λ node. ⟦<Plain<C> as Node>⟧.marks node ≡ []) }
@@ -100,10 +105,7 @@ impl<C: Clock> Node for Plain<C> {
             return Err(NoMemory);
         }
         let number = next_number(&mut self.calls, actor)?;
-        let reading = match self.line {
-            Some(line) => line_reading(line, place as u64),
-            None => raw_reading(&mut self.clock, &mut self.taken),
-        };
+        let reading = next_reading(self.line, place as u64, &mut self.clock, &mut self.taken);
         let fate = self.faults.get(actor, number).unwrap_or(Fate::Plain);
         self.history.push(Event {
             actor,
@@ -111,9 +113,9 @@ impl<C: Clock> Node for Plain<C> {
             fate,
             reading: reading.saturating_add(self.ahead),
         })?;
-        let outcome = match self.history.as_slice() {
-            [.., event] => perform(self.alloc, &mut self.state, event),
-            [] => unreachable!(),
+        let outcome = match self.history.get(place) {
+            Some(event) => perform(self.alloc, &mut self.state, event),
+            None => unreachable!(),
         };
         match outcome {
             Ok(reply) => {

@@ -1,11 +1,6 @@
 -- The report on a run, as a function of its script and its book.
 use Rattle.std.specs.Prelude.{ℕ, ◌+◌, Bool, true, false, List, [], ◌∷◌, ◌++◌, length, Option, Some, None, codes, decimal, count_by, map, is_some, is_none}
 use Rattle.cbt_book.specs.declared.book.Book.{Book}
-use Rattle.cbt_book.specs.declared.cleaners.CleanerLog.{CleanerLog}
-use Rattle.cbt_book.specs.declared.cleaners.RoundLog.{RoundLog}
-use Rattle.cbt_book.specs.declared.cleaners.PassLog.{PassLog}
-use Rattle.cbt_book.specs.declared.cleaners.PassEnd.{PassEnd}
-use Rattle.cbt_book.specs.declared.cleaners.PassEnd.TheVariants as pass
 use Rattle.cbt_book.specs.declared.clients.ClientLog.{ClientLog}
 use Rattle.cbt_book.specs.declared.clients.TxnLog.{TxnLog}
 use Rattle.cbt_expr.specs.declared.plans.ClientPlan.{ClientPlan}
@@ -13,10 +8,9 @@ use Rattle.cbt_json.specs.declared.tree.Tree.{Tree}
 use Rattle.cbt_json.specs.Trees.{text_of}
 use Rattle.cbt_model.specs.History.{after, commits_below}
 use Rattle.cbt_model.specs.Keys.{entry_at}
-use Rattle.cbt_model.specs.View.{view_doc}
+use Rattle.cbt_model.specs.View.{view}
 use Rattle.cbt_model.specs.declared.documents.DocState.{DocState}
 use Rattle.cbt_model.specs.declared.documents.Stage.{Stage}
-use Rattle.cbt_model.specs.declared.events.Kept.{Kept}
 use Rattle.cbt_model.specs.declared.states.State.{State}
 use Rattle.cbt_report.specs.Lines.{number_line}
 use Rattle.cbt_report.specs.Outcomes.{outcome_text}
@@ -40,18 +34,37 @@ doc_line id (Some body) = codes "doc " ++ id ++ codes " " ++ text_of body ++ cod
 
 abbrev pub doc_lines : State → List (List ℕ × DocState) → List ℕ
 doc_lines s [] = []
-doc_lines s (d ∷ ds) = doc_line d.0 (view_doc s (Some d.1)) ++ doc_lines s ds
-
--- whether a staging's attempt has its entry
-abbrev pub has_entry : State → Stage → Bool
-has_entry s stage = is_some (entry_at s (stage.atr, stage.attempt))
+doc_lines s (d ∷ ds) = doc_line d.0 (view s d.0) ++ doc_lines s ds
 
 -- a document is staged by an attempt whose entry is there
-abbrev pub is_staged_by : State → Option Stage → Bool
-is_staged_by s None = false
-is_staged_by s (Some stage) = has_entry s stage
+abbrev pub is_held : State → Option Stage → Bool
+is_held s None = false
+is_held s (Some stage) = is_some (entry_at s (stage.atr, stage.attempt))
 
 -- a document is staged by an attempt without an entry
-abbrev pub is_dead_by : State → Option Stage → Bool
-is_dead_by s None = false
-is_dead_by s (Some stage) = is_none (entry_at s (stage.atr, stage.attempt))
+abbrev pub is_dead : State → Option Stage → Bool
+is_dead s None = false
+is_dead s (Some stage) = is_none (entry_at s (stage.atr, stage.attempt))
+
+-- how many documents are staged so
+abbrev pub staged_count : State → List (List ℕ × DocState) → ℕ
+staged_count s docs = count_by (λ d. is_held s d.1.stage) docs
+
+abbrev pub dead_count : State → List (List ℕ × DocState) → ℕ
+dead_count s docs = count_by (λ d. is_dead s d.1.stage) docs
+
+-- the lines on the state at the end
+abbrev pub state_lines : State → List ℕ
+state_lines s =
+    doc_lines s s.docs
+    ++ number_line (codes "staged") (staged_count s s.docs)
+    ++ number_line (codes "dead") (dead_count s s.docs)
+    ++ number_line (codes "entries") (length s.entries)
+
+-- the report of a run without cleaners
+abbrev pub report_text : Script → Book → List ℕ
+report_text script book =
+    number_line (codes "history") (length book.kept.history)
+    ++ number_line (codes "committed") (length (commits_below book.kept.opening book.kept.history (length book.kept.history)))
+    ++ client_lines script.clients book.clients
+    ++ state_lines (after book.kept.opening book.kept.history (length book.kept.history))

@@ -1,6 +1,6 @@
 //! The first form of a script: six lines, of one document and one client that replaces it.
 
-ghost use Rattle.std.specs.Prelude.{◌≡◌, ◌∷◌, [], IfOk, IsErrOf};
+ghost use Rattle.std.specs.Prelude.{◌≡◌, [], IfOk, IsErrOf};
 ghost use Rattle.std.specs.Option.{option_copied, option_map};
 ghost use Rattle.cbt_base.specs.Ids.{IsDocId};
 ghost use Rattle.cbt_json.specs.declared.tree.Tree.{Tree};
@@ -10,6 +10,7 @@ ghost use Rattle.cbtx.specs.Fields.{seen};
 ghost use Rattle.cbtx.specs.FirstForm.{clock_line, body_line, client_line, first_fields, fields_seen, fields_at, IsBody, IsFirstForm, script_with};
 ghost use Rattle.cbtx.specs.declared.form.FormFault.TheVariants.{NoMemory as WantOfMemory};
 
+use crate::lists::only;
 use crate::fields::{after_word, is_a_name, line, number, word};
 use cbt_base::{DocId, Duplicate, IdFault, List, NoMemory, Text};
 use cbt_expr::{ClientPlan, Expr, Op, TxnPlan};
@@ -222,13 +223,4 @@ fn empty_object(alloc: Global) -> Json
         Some(json) => json,
         None => unreachable!(),
     }
-}
-
-// A list of one item.
-fn only<T: Drop>(alloc: Global, item: T) -> Result<List<T>, NoMemory>
-    ensures { IfOk result (λ list. list ≡ item ∷ []) }
-{
-    let mut list = List::new(alloc);
-    list.push(item)?;
-    Ok(list)
 }

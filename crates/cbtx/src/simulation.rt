@@ -2,6 +2,7 @@
 
 ghost use Rattle.cbtx.specs.FirstForm.{IsOneReplace};
 
+use crate::lists::only;
 use crate::replace::{Replacement, replace_once};
 use cbt_base::{Clock, Duplicate, List, NoMemory};
 use cbt_book::Book;
@@ -20,9 +21,9 @@ pub fn simulate<C: Clock>(alloc: Global, script: &Script, clock: C) -> Result<Bo
 {
     let opening = script.opening(alloc)?;
     let faults = script.faults.copy(alloc)?;
-    let mut clients = List::new(alloc);
     let mut node = Plain::new(alloc, opening, faults, script.line, clock)?;
-    clients.push(replace_once(alloc, &mut node, &replacement(script))?)?;
+    let log = replace_once(alloc, &mut node, replacement(script))?;
+    let clients = only(alloc, log)?;
     Ok(Book {
         kept: node.finish(),
         clients,
