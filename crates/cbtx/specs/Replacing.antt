@@ -9,7 +9,7 @@ use Rattle.cbt_model.specs.declared.states.State.{State}
 use Rattle.cbt_model.specs.declared.steps.Reply.TheVariants as reply
 use Rattle.cbt_model.specs.declared.steps.Step.{Step}
 use Rattle.cbtx.specs.Path.{Task, opened}
-use Rattle.cbtx.specs.declared.replace.Replacement.{Replacement}
+use Rattle.cbtx.specs.declared.replacement.Replacement.{Replacement}
 
 -- what is replaced, over a document with this body and these attributes
 abbrev pub task_of : Replacement → Tree → Tree → Task

@@ -7,118 +7,14 @@ ghost use Rattle.cbtx.specs.Path.{now_of, NoFaults, Takes, Called, Changed};
 ghost use Rattle.cbtx.specs.Replacing.{Begins, Reads};
 
 use crate::lists::only;
-use cbt_base::{DocId, Duplicate, Id, List, NoMemory, atr_of};
+use crate::replacement::Replacement;
+use cbt_base::{Id, NoMemory};
 use cbt_book::{AttemptEnd, AttemptLog, ClientLog, OpAnswer, OpLog, Span, TxnEnd, TxnLog, When};
-use cbt_json::Json;
-use cbt_model::{Expect, Lists, Node, OpKind, Reply, Stage, Step};
+use cbt_model::{Node, Reply, Step};
 use std::alloc::Global;
 
-/// What is replaced, and by whom.
-#[derive(Clone, Copy)]
-pub struct Replacement<'a> {
-    /// The client's number among the actors.
-    pub actor: u32,
-    pub doc: &'a DocId,
-    pub body: &'a Json,
-    /// How long the entry stands before a cleaner may take it, in milliseconds.
-    pub hold: u64,
-    /// How many active transaction records there are.
-    pub atrs: u16,
-    ghost numbered: { 1 ≤ actor },
-    ghost recorded: { (1 ≤ atrs) × (atrs ≤ 1024) },
-}
-
-impl Replacement<'_> {
-    ghost use Rattle.std.specs.Prelude.{◌≡◌, IfOk};
-    ghost use Rattle.cbtx.specs.Path.{attempt_of, read_step, entry_step, stage_step, commit_step, publish_step, drop_step};
-    ghost use Rattle.cbtx.specs.Path as path;
-    ghost use Rattle.cbtx.specs.Replacing.{bare_task};
-
-    // The one attempt.
-    fn attempt(&self) -> Id
-        ensures { result ≡ attempt_of (bare_task self.now) }
-    {
-        Id::attempt(self.actor, 1, 1)
-    }
-
-    // The record that has the attempt's entry.
-    fn atr(&self) -> u16
-        ensures { result ≡ path.atr_of (bare_task self.now) }
-    {
-        atr_of(self.doc, self.atrs)
-    }
-
-    fn read_step(&self, alloc: Global) -> Result<Step, NoMemory>
-        ensures { IfOk result (λ step. step ≡ read_step (bare_task self.now)) }
-    {
-        let doc = self.doc.copy(alloc)?;
-        Ok(Step::ReadDoc { doc })
-    }
-
-    fn entry_step(&self) -> Step
-        ensures { result ≡ entry_step (bare_task self.now) }
-    {
-        Step::AddEntry {
-            atr: self.atr(),
-            attempt: self.attempt(),
-            exp: self.hold,
-        }
-    }
-
-    fn stage_step(&self, alloc: Global, cas: u64) -> Result<Step, NoMemory>
-        ensures { IfOk result (λ step. step ≡ stage_step (bare_task self.now) cas) }
-    {
-        let doc = self.doc.copy(alloc)?;
-        let content = self.body.copy(alloc)?;
-        let stage = Stage {
-            attempt: self.attempt(),
-            atr: self.atr(),
-            kind: OpKind::Replace,
-            content: Some(content),
-        };
-        Ok(Step::Stage {
-            doc,
-            expect: Expect::Cas(cas),
-            stage,
-        })
-    }
-
-    fn commit_step(&self, alloc: Global) -> Result<Step, NoMemory>
-        ensures { IfOk result (λ step. step ≡ commit_step (bare_task self.now)) }
-    {
-        let rep = only(alloc, self.doc.copy(alloc)?)?;
-        let lists = Lists {
-            ins: List::new(alloc),
-            rep,
-            rem: List::new(alloc),
-        };
-        Ok(Step::Commit {
-            atr: self.atr(),
-            attempt: self.attempt(),
-            lists,
-        })
-    }
-
-    fn publish_step(&self, alloc: Global, cas: u64) -> Result<Step, NoMemory>
-        ensures { IfOk result (λ step. step ≡ publish_step (bare_task self.now) cas) }
-    {
-        let doc = self.doc.copy(alloc)?;
-        let body = self.body.copy(alloc)?;
-        Ok(Step::Publish { doc, cas, body })
-    }
-
-    fn drop_step(&self) -> Step
-        ensures { result ≡ drop_step (bare_task self.now) }
-    {
-        Step::DropEntry {
-            atr: self.atr(),
-            attempt: self.attempt(),
-            guarded: false,
-        }
-    }
-}
-
 // The place of a call in the history, and the CAS that it was answered.
+#[derive(Clone, Copy)]
 struct Done {
     place: u64,
     cas: u64,
@@ -128,8 +24,8 @@ struct Done {
 /// the body, and drops the entry.
 pub fn replace_once<N: Node>(alloc: Global, node: &mut N, it: Replacement<'_>) -> Result<ClientLog, NoMemory>
     requires faults { NoFaults (N.terms node.old) }
-    requires fits { BodyFits it.entry.body.now }
-    requires begins { Begins it.entry (now_of (N.opening node.old) (N.history node.old)) }
+    requires fits { BodyFits it.body.now }
+    requires begins { Begins it (now_of (N.opening node.old) (N.history node.old)) }
 {
     let read = read(node, it.actor, it.read_step(alloc)?)?;
     change(node, it.actor, it.entry_step())?;

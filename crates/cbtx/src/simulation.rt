@@ -3,7 +3,8 @@
 ghost use Rattle.cbtx.specs.FirstForm.{IsOneReplace};
 
 use crate::lists::only;
-use crate::replace::{Replacement, replace_once};
+use crate::replace::replace_once;
+use crate::replacement::Replacement;
 use cbt_base::{Clock, Duplicate, List, NoMemory};
 use cbt_book::Book;
 use cbt_expr::Op;
