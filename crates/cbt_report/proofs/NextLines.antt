@@ -1,6 +1,6 @@
 -- Lists of lines, one line at a time.
-use Rattle.std.proofs.Common.{◌≡◌, ℕ, zero, suc, ◌+◌, ◌<◌, ◌≤◌, List, [], ◌∷◌, ◌++◌, length, get_or, drop, refl, sym, ap, ◌∙◌, arith, append_assoc}
-use Rattle.std.proofs.Math.Seq.{drop-cons}
+use Rattle.std.proofs.Common.{◌≡◌, ℕ, zero, suc, ◌+◌, ◌<◌, ◌≤◌, min, List, [], ◌∷◌, ◌++◌, length, get_or, drop, refl, sym, ap, ◌∙◌, arith, append_assoc}
+use Rattle.std.proofs.lemmas.List.{append-nil}
 use Rattle.cbt_book.specs.declared.clients.ClientLog.{ClientLog}
 use Rattle.cbt_book.specs.declared.clients.TxnLog.{TxnLog}
 use Rattle.cbt_expr.specs.declared.plans.ClientPlan.{ClientPlan}
@@ -23,19 +23,23 @@ client_lines-next zero (x ∷ cs) (y ∷ ls) c l low low2 is is2 =
     ap (λ z. txn_lines z.0 1 y.txns ++ client_lines cs ls) (sym is) ∙ ap (λ z. txn_lines c.0 1 z.txns ++ client_lines cs ls) (sym is2)
 client_lines-next (suc k) (x ∷ cs) (y ∷ ls) c l low low2 is is2 = client_lines-next k cs ls c l (omega arith) (omega arith) is is2
 
--- past the last client or the last log there is none
-pub client_lines-end : (cs : List (List ℕ × ClientPlan)) (ls : List ClientLog) (k : ℕ) → length cs ≤ k → client_lines (drop k cs) (drop k ls) ≡ []
-client_lines-end [] ls zero high = refl
-client_lines-end [] ls (suc k) high = refl
-client_lines-end (x ∷ cs) ls zero high = absurd (omega arith)
-client_lines-end (x ∷ cs) [] (suc k) high = client_lines-end cs [] k (omega arith)
-client_lines-end (x ∷ cs) (y ∷ ls) (suc k) high = client_lines-end cs ls k (omega arith)
+none-left : (ls : List ClientLog) → client_lines [] ls ≡ []
+none-left [] = refl
+none-left (y ∷ ls) = refl
 
-pub client_lines-end-logs : (cs : List (List ℕ × ClientPlan)) (ls : List ClientLog) (k : ℕ) → length ls ≤ k → client_lines (drop k cs) (drop k ls) ≡ []
-client_lines-end-logs [] [] zero high = refl
-client_lines-end-logs (x ∷ cs) [] zero high = refl
-client_lines-end-logs cs (y ∷ ls) zero high = absurd (omega arith)
-client_lines-end-logs [] [] (suc k) high = refl
-client_lines-end-logs [] (y ∷ ls) (suc k) high = client_lines-end-logs [] ls k (omega arith)
-client_lines-end-logs (x ∷ cs) [] (suc k) high = client_lines-end-logs cs [] k (omega arith)
-client_lines-end-logs (x ∷ cs) (y ∷ ls) (suc k) high = client_lines-end-logs cs ls k (omega arith)
+none-right : (cs : List (List ℕ × ClientPlan)) → client_lines cs [] ≡ []
+none-right [] = refl
+none-right (x ∷ cs) = refl
+
+-- past the last client or the last log there is none
+pub client_lines-end : (k : ℕ) (cs : List (List ℕ × ClientPlan)) (ls : List ClientLog) → min (length cs) (length ls) ≤ k → client_lines (drop k cs) (drop k ls) ≡ []
+client_lines-end zero [] ls high = none-left ls
+client_lines-end (suc k) [] ls high = none-left (drop (suc k) ls)
+client_lines-end zero (x ∷ cs) [] high = refl
+client_lines-end (suc k) (x ∷ cs) [] high = none-right (drop k cs)
+client_lines-end zero (x ∷ cs) (y ∷ ls) high = absurd (omega arith)
+client_lines-end (suc k) (x ∷ cs) (y ∷ ls) high = client_lines-end k cs ls (omega arith)
+
+-- where nothing is left, what is written is the whole
+pub whole : (out left all : List ℕ) → out ++ left ≡ all → left ≡ [] → out ≡ all
+whole out left all parts none = sym (append-nil out) ∙ (ap (λ x. out ++ x) (sym none) ∙ parts)
