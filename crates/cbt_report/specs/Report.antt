@@ -2,6 +2,7 @@
 use Rattle.std.specs.Prelude.{ℕ, ◌+◌, Bool, true, false, List, [], ◌∷◌, ◌++◌, length, Option, Some, None, codes, decimal, count_by, map, is_some, is_none}
 use Rattle.cbt_book.specs.declared.book.Book.{Book}
 use Rattle.cbt_book.specs.declared.clients.ClientLog.{ClientLog}
+use Rattle.cbt_book.specs.declared.clients.TxnEnd.{TxnEnd}
 use Rattle.cbt_book.specs.declared.clients.TxnLog.{TxnLog}
 use Rattle.cbt_expr.specs.declared.plans.ClientPlan.{ClientPlan}
 use Rattle.cbt_json.specs.declared.tree.Tree.{Tree}
@@ -16,11 +17,14 @@ use Rattle.cbt_report.specs.Lines.{number_line}
 use Rattle.cbt_report.specs.Outcomes.{outcome_text}
 use Rattle.cbt_script.specs.declared.script.Script.{Script}
 
+-- the i-th transaction of a client with its outcome
+abbrev pub txn_line : List ℕ → ℕ → TxnEnd → List ℕ
+txn_line name i end = codes "txn " ++ name ++ codes " " ++ decimal i ++ codes " " ++ outcome_text end ++ codes "\n"
+
 -- a client's transactions from the i-th on, each with its outcome
 abbrev pub txn_lines : List ℕ → ℕ → List TxnLog → List ℕ
 txn_lines name i [] = []
-txn_lines name i (t ∷ ts) =
-    codes "txn " ++ name ++ codes " " ++ decimal i ++ codes " " ++ outcome_text t.end ++ codes "\n" ++ txn_lines name (i + 1) ts
+txn_lines name i (t ∷ ts) = txn_line name i t.end ++ txn_lines name (i + 1) ts
 
 -- the transactions of the clients, which stand by name in the same order as their logs
 abbrev pub client_lines : List (List ℕ × ClientPlan) → List ClientLog → List ℕ

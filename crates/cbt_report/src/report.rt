@@ -3,13 +3,13 @@
 ghost use Rattle.std.specs.Prelude.{◌≡◌, ◌+◌, ◌-◌, ◌^◌, ◌≤◌, ◌++◌, length, IfOk, OnOk};
 ghost use Rattle.cbt_base.specs.Clock.{clock_of};
 ghost use Rattle.cbt_model.specs.View.{view};
-ghost use Rattle.cbt_report.specs.Report.{txn_lines, client_lines, doc_line, doc_lines, is_held, is_dead, staged_count, dead_count, state_lines, report_text};
+ghost use Rattle.cbt_report.specs.Report.{txn_line, txn_lines, client_lines, doc_line, doc_lines, is_held, is_dead, staged_count, dead_count, state_lines, report_text};
 
 use crate::lines::{push_number, push_number_line};
 use crate::outcomes::outcome;
 use crate::replay::end_of;
 use cbt_base::{DocId, NoMemory, Text};
-use cbt_book::{Book, ClientLog, TxnLog};
+use cbt_book::{Book, ClientLog, TxnEnd, TxnLog};
 use cbt_expr::ClientPlan;
 use cbt_model::{Stage, State, view};
 use cbt_script::Script;
@@ -47,15 +47,22 @@ fn push_txns(out: &mut Text, name: &str, txns: &[TxnLog]) -> Result<(), NoMemory
     ensures { OnOk result (out.new ≡ out.old ++ txn_lines name.now 1 txns.now) }
 {
     for k in 0..txns.len() {
-        out.push_str("txn ")?;
-        out.push_str(name)?;
-        out.push_str(" ")?;
-        push_number(out, k as u64 + 1)?;
-        out.push_str(" ")?;
-        out.push_str(outcome(txns[k].end))?;
-        out.push_str("\n")?;
+        push_txn(out, name, k as u64 + 1, txns[k].end)?;
     }
     Ok(())
+}
+
+// A transaction with its outcome.
+fn push_txn(out: &mut Text, name: &str, i: u64, end: TxnEnd) -> Result<(), NoMemory>
+    ensures { OnOk result (out.new ≡ out.old ++ txn_line name.now i end) }
+{
+    out.push_str("txn ")?;
+    out.push_str(name)?;
+    out.push_str(" ")?;
+    push_number(out, i)?;
+    out.push_str(" ")?;
+    out.push_str(outcome(end))?;
+    out.push_str("\n")
 }
 
 // What the state holds at the end.
@@ -63,8 +70,8 @@ fn push_state(alloc: Global, out: &mut Text, state: &State) -> Result<(), NoMemo
     ensures { OnOk result (out.new ≡ out.old ++ state_lines state.now) }
 {
     push_docs(alloc, out, state)?;
-    push_number_line(out, "staged", held_docs(state))?;
-    push_number_line(out, "dead", dead_docs(state))?;
+    push_number_line(out, "staged", held_docs(state) as u64)?;
+    push_number_line(out, "dead", dead_docs(state) as u64)?;
     push_number_line(out, "entries", state.entries.len() as u64)
 }
 
@@ -94,29 +101,17 @@ fn push_doc(alloc: Global, out: &mut Text, state: &State, id: &DocId) -> Result<
 }
 
 // How many documents are staged by an attempt whose entry is there.
-fn held_docs(state: &State) -> u64
+fn held_docs(state: &State) -> usize
     ensures { result ≡ staged_count state.now state.now.docs }
 {
-    let mut count = 0;
-    for (_, doc) in state.docs.iter() {
-        if is_held(state, &doc.stage) {
-            count += 1;
-        }
-    }
-    count
+    state.docs.iter().filter(|pair| is_held(state, &pair.1.stage)).count()
 }
 
 // How many documents are staged by an attempt without an entry.
-fn dead_docs(state: &State) -> u64
+fn dead_docs(state: &State) -> usize
     ensures { result ≡ dead_count state.now state.now.docs }
 {
-    let mut count = 0;
-    for (_, doc) in state.docs.iter() {
-        if is_dead(state, &doc.stage) {
-            count += 1;
-        }
-    }
-    count
+    state.docs.iter().filter(|pair| is_dead(state, &pair.1.stage)).count()
 }
 
 fn is_held(state: &State, stage: &Option<Stage>) -> bool
