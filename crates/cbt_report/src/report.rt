@@ -21,7 +21,7 @@ use std::alloc::Global;
 pub fn report_of(alloc: Global, script: &Script, book: &Book) -> Result<Text, NoMemory>
     requires last { book.now.kept.opening.last ≤ clock_of (2 ^ 43 - 1) + 2 ^ 32 }
     requires short { length book.now.kept.history ≤ 2 ^ 62 }
-    ensures { IfOk result (λ text. text ≡ report_text script.now book.now) }
+    ensures text { IfOk result (λ text. text ≡ report_text script.now book.now) }
 {
     let end = end_of(alloc, &book.kept)?;
     let mut out = Text::from_str(alloc, "")?;
