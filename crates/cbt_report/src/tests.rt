@@ -3,7 +3,9 @@ use cbt_base::{DocId, Id, List, Map, NoMemory, Text};
 use cbt_book::{Book, ClientLog, TxnEnd, TxnLog, Why};
 use cbt_expr::ClientPlan;
 use cbt_json::Json;
-use cbt_model::{DocState, Entry, EntryState, Event, Fate, Faults, Kept, Lists, OpKind, Stage, State, Step};
+use cbt_model::{
+    DocState, Entry, EntryState, Event, Fate, Faults, Kept, Lists, OpKind, Stage, State, Step,
+};
 use cbt_script::Script;
 use std::alloc::Global;
 use std::test::Fail;
@@ -108,7 +110,10 @@ fn nothing_happened(rt: HostRuntime) -> Result<(), Fail> {
         cleaners: List::new(alloc),
     };
     let text = report_of(alloc, &script_of(alloc, List::new(alloc)), &book)?;
-    assert_eq!(rt; text.as_str(), "history 0\ncommitted 0\nstaged 0\ndead 0\nentries 0\n");
+    assert_eq!(rt;
+        text.as_str(),
+        "history 0\ncommitted 0\nstaged 0\ndead 0\nentries 0\n"
+    );
     Ok(())
 }
 
@@ -120,7 +125,10 @@ fn a_commit_and_each_outcome(rt: HostRuntime) -> Result<(), Fail> {
     let gone = Id::attempt(1, 1, 2);
     let mut docs = Map::new(alloc);
     docs.insert(DocId::new(alloc, "a")?, staged(alloc, here, None)?)?;
-    docs.insert(DocId::new(alloc, "b")?, staged(alloc, gone, Some(Json::read(alloc, b"{\"n\":1}")?))?)?;
+    docs.insert(
+        DocId::new(alloc, "b")?,
+        staged(alloc, gone, Some(Json::read(alloc, b"{\"n\":1}")?))?,
+    )?;
     docs.insert(DocId::new(alloc, "c")?, staged(alloc, gone, None)?)?;
     let mut entries = Map::new(alloc);
     let entry = Entry {
