@@ -1,5 +1,5 @@
 -- A history that happens again, event by event: the state and the commits after one event more.
-use Rattle.std.proofs.Common.{◌≡◌, ℕ, zero, suc, ◌+◌, ◌-◌, ◌^◌, ◌<◌, ◌≤◌, Bool, cond, List, [], ◌∷◌, ◌++◌, length, get_or, slice_get, Option, Some, None, is_some, refl, sym, ap, ◌∙◌, arith, add-one}
+use Rattle.std.proofs.Common.{◌≡◌, ℕ, zero, suc, ◌+◌, ◌-◌, ◌^◌, ◌<◌, ◌≤◌, Bool, cond, List, [], ◌∷◌, ◌++◌, length, get_or, slice_get, Option, Some, None, is_some, sym, ap, ◌∙◌, arith, add-one}
 use Rattle.std.specs.Option.{option_to_list}
 use Rattle.cbt_base.specs.Clock.{clock_of}
 use Rattle.cbt_base.proofs.Stamps.{clock_of-le}
@@ -28,8 +28,8 @@ pub commits-next : (s0 : State) (h : List Event) (i : ℕ) (e : Event) (s : Stat
 commits-next s0 h i e s b n there at is counted =
     rw (add-one i)
     (taken (committed_by (after s0 h i) (slice_get h i)) (commits_below s0 h i) n b
-      (is ∙ (ap (λ x. is_some (committed_by x (Some e))) at ∙ ap (λ o. is_some (committed_by (after s0 h i) o)) (sym there)))
-      counted)
+    (is ∙ (ap (λ x. is_some (committed_by x (Some e))) at ∙ ap (λ o. is_some (committed_by (after s0 h i) o)) (sym there)))
+    counted)
 
 -- the clock of a copy of an opening whose clock is not far past the last reading
 pub opening-clock : (s t : State) → s ≡ t → t.last ≤ clock_of (2 ^ 43 - 1) + 2 ^ 32 → s.last ≤ 2 ^ 63 + 2 ^ 32

@@ -1,5 +1,5 @@
 -- The report on a run, as a function of its script and its book.
-use Rattle.std.specs.Prelude.{ℕ, ◌+◌, Bool, true, false, List, [], ◌∷◌, ◌++◌, length, Option, Some, None, codes, decimal, count_by, map, is_some, is_none}
+use Rattle.std.specs.Prelude.{ℕ, ◌+◌, Bool, false, List, [], ◌∷◌, ◌++◌, length, Option, Some, None, codes, decimal, count_by, is_some, is_none}
 use Rattle.cbt_book.specs.declared.book.Book.{Book}
 use Rattle.cbt_book.specs.declared.clients.ClientLog.{ClientLog}
 use Rattle.cbt_book.specs.declared.clients.TxnEnd.{TxnEnd}

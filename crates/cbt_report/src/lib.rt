@@ -5,5 +5,7 @@ mod lines;
 mod outcomes;
 mod replay;
 mod report;
+#[cfg(test)]
+mod tests;
 
 pub use report::report_of;

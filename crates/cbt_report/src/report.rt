@@ -17,11 +17,13 @@ use std::alloc::Global;
 
 /// The report on a run without cleaners: how many events and commits it had, each transaction that
 /// was begun with its outcome, each document with what it resolves to at the end, and what is left
-/// staged.
+/// staged. The cleaners of the script are not told of.
+///
+/// It fails only where memory runs out.
 pub fn report_of(alloc: Global, script: &Script, book: &Book) -> Result<Text, NoMemory>
     requires last { book.now.kept.opening.last ≤ clock_of (2 ^ 43 - 1) + 2 ^ 32 }
     requires short { length book.now.kept.history ≤ 2 ^ 62 }
-    ensures { IfOk result (λ text. text ≡ report_text script.now book.now) }
+    ensures text { IfOk result (λ text. text ≡ report_text script.now book.now) }
 {
     let end = end_of(alloc, &book.kept)?;
     let mut out = Text::from_str(alloc, "")?;
@@ -33,7 +35,11 @@ pub fn report_of(alloc: Global, script: &Script, book: &Book) -> Result<Text, No
 }
 
 // The transactions of the clients, which stand in the same order as their logs.
-fn push_clients(out: &mut Text, clients: &[(Text, ClientPlan)], logs: &[ClientLog]) -> Result<(), NoMemory>
+fn push_clients(
+    out: &mut Text,
+    clients: &[(Text, ClientPlan)],
+    logs: &[ClientLog],
+) -> Result<(), NoMemory>
     ensures { OnOk result (out.new ≡ out.old ++ client_lines clients.now logs.now) }
 {
     for k in 0..clients.len().min(logs.len()) {
@@ -104,14 +110,22 @@ fn push_doc(alloc: Global, out: &mut Text, state: &State, id: &DocId) -> Result<
 fn held_docs(state: &State) -> usize
     ensures { result ≡ staged_count state.now state.now.docs }
 {
-    state.docs.iter().filter(|pair| is_held(state, &pair.1.stage)).count()
+    state
+        .docs
+        .iter()
+        .filter(|pair| is_held(state, &pair.1.stage))
+        .count()
 }
 
 // How many documents are staged by an attempt without an entry.
 fn dead_docs(state: &State) -> usize
     ensures { result ≡ dead_count state.now state.now.docs }
 {
-    state.docs.iter().filter(|pair| is_dead(state, &pair.1.stage)).count()
+    state
+        .docs
+        .iter()
+        .filter(|pair| is_dead(state, &pair.1.stage))
+        .count()
 }
 
 fn is_held(state: &State, stage: &Option<Stage>) -> bool
