@@ -1,3 +1,4 @@
 pub mod Paths
 pub mod Told
 pub mod Phases
+pub mod Begun

@@ -8,6 +8,7 @@ use Rattle.cbt_model.specs.declared.events.Event.{Event}
 use Rattle.cbt_model.specs.declared.states.State.{State}
 use Rattle.cbt_model.specs.declared.steps.Reply.TheVariants as reply
 use Rattle.cbt_model.specs.declared.steps.Step.{Step}
+use Rattle.cbtx.specs.FirstForm.{Fields, default_expiry}
 use Rattle.cbtx.specs.Path.{Task, opened}
 use Rattle.cbtx.specs.declared.replacement.Replacement.{Replacement}
 
@@ -33,3 +34,11 @@ pub record Reads (s : State) (step : Step) : Type 0 where
   pub body : Option Tree
   pub stage : Option Stage
   pub is : (c : ℕ) → row s c step ≡ refused (reply.Doc cas body stage)
+
+-- what is replaced is what these fields and this body say
+pub record Does (it : Replacement) (fields : Fields) (new : Tree) : Type 0 where
+  pub actor : it.actor ≡ 1
+  pub doc : it.doc.now ≡ fields.id
+  pub body : it.body.now ≡ new
+  pub hold : it.hold ≡ default_expiry
+  pub atrs : it.atrs ≡ 16

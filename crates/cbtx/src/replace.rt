@@ -26,6 +26,8 @@ pub fn replace_once<N: Node>(alloc: Global, node: &mut N, it: Replacement<'_>) -
     requires faults { NoFaults (N.terms node.old) }
     requires fits { BodyFits it.body.now }
     requires begins { Begins it (now_of (N.opening node.old) (N.history node.old)) }
+    ensures opening { N.opening node.new ≡ N.opening node.old }
+    ensures marks { N.marks node.new ≡ N.marks node.old }
 {
     let read = read(node, it.actor, it.read_step(alloc)?)?;
     change(node, it.actor, it.entry_step())?;

@@ -1,6 +1,9 @@
 //! A script's run, one call after another.
 
+ghost use Rattle.std.specs.Prelude.{◌≡◌, IfOk};
+ghost use Rattle.cbt_script.specs.Opening.{opening_of};
 ghost use Rattle.cbtx.specs.FirstForm.{IsOneReplace};
+ghost use Rattle.cbtx.specs.Replacing.{Does};
 
 use crate::lists::only;
 use crate::replace::replace_once;
@@ -19,6 +22,7 @@ const FIRST_ACTOR: u32 = 1;
 /// Lets a script of the first form run on the typed node, and answers what the run leaves.
 pub fn simulate<C: Clock>(alloc: Global, script: &Script, clock: C) -> Result<Book, NoMemory>
     requires { IsOneReplace script.now }
+    ensures { IfOk result (λ book. book.kept.opening ≡ opening_of script.now.docs) }
 {
     let opening = script.opening(alloc)?;
     let faults = script.faults.copy(alloc)?;
@@ -35,6 +39,7 @@ pub fn simulate<C: Clock>(alloc: Global, script: &Script, clock: C) -> Result<Bo
 // What the one client of a script of the first form does.
 fn replacement(script: &Script) -> Replacement<'_>
     requires { IsOneReplace script.now }
+    ensures { (it : IsOneReplace script.now) → Does result it.fields it.new }
 {
     match script.clients.as_slice() {
         [(_, plan), ..] => match plan.txns.as_slice() {

@@ -1,0 +1,103 @@
+//! The program as one call over any source, sink and clock.
+
+ghost use Rattle.std.specs.Prelude.{◌≡◌, false};
+ghost use Rattle.cbtx.specs.Statuses.{IsWritten};
+ghost use Rattle.cbtx.specs.Words.{is_sim};
+
+use crate::form::{FormFault, first_form};
+use crate::simulation::simulate;
+use crate::words::{USAGE, is_sim};
+use cbt_base::{Clock, ReadFault, Sink, Source, Text, read_all, write_all};
+use cbt_book::Book;
+use cbt_report::report_of;
+use cbt_script::Script;
+use std::alloc::Global;
+
+/// The most bytes that an input has.
+const MAX_INPUT: usize = 4_194_304;
+
+/// What is written where the input is no script of the form that is built.
+const REFUSED: &str = "script refused: NotBuilt\n";
+
+/// How a run ended.
+///
+/// The status is 0 where the input was read to its end and all was written, 1 where the input is no
+/// script, 2 where the words are no command, 3 where the source failed, 4 where the sink failed, and
+/// 5 where memory ran out.
+#[derive(Drop)]
+pub struct Ran {
+    pub status: u8,
+    /// What the run left, where it was made.
+    pub book: Option<Book>,
+    /// The script, where the book is there.
+    pub script: Option<Script>,
+}
+
+impl Ran {
+    // A run that left nothing.
+    fn ended(status: u8) -> Ran
+        ensures { result.status ≡ status }
+    {
+        Ran {
+            status,
+            book: None,
+            script: None,
+        }
+    }
+}
+
+/// Does what the words say: it reads a script from the source, lets it run, and writes the report.
+/// It waits for nobody.
+pub fn still<S: Source, K: Sink, C: Clock>(
+    alloc: Global,
+    words: &[Text],
+    src: &mut S,
+    out: &mut K,
+    clock: C,
+) -> Ran
+    // Other words are usage, unless the usage line was not written.
+    ensures usage { is_sim words.now ≡ false → IsWritten result.status 2 }
+{
+    if is_sim(words) {
+        sim(alloc, src, out, clock)
+    } else {
+        Ran::ended(written(out, USAGE, 2))
+    }
+}
+
+// Runs the script that the source gives.
+fn sim<S: Source, K: Sink, C: Clock>(alloc: Global, src: &mut S, out: &mut K, clock: C) -> Ran {
+    let bytes = match read_all(alloc, src, MAX_INPUT) {
+        Ok(bytes) => bytes,
+        Err(ReadFault::NoMemory) => return Ran::ended(5),
+        Err(ReadFault::Failed) => return Ran::ended(3),
+        Err(ReadFault::TooLong) => return Ran::ended(written(out, REFUSED, 1)),
+    };
+    let script = match first_form(alloc, bytes.as_slice()) {
+        Ok(script) => script,
+        Err(FormFault::NotBuilt) => return Ran::ended(written(out, REFUSED, 1)),
+        Err(FormFault::NoMemory) => return Ran::ended(5),
+    };
+    let Ok(book) = simulate(alloc, &script, clock) else {
+        return Ran::ended(5);
+    };
+    let status = match report_of(alloc, &script, &book) {
+        Ok(report) => written(out, report.as_str(), 0),
+        Err(_) => 5,
+    };
+    Ran {
+        status,
+        book: Some(book),
+        script: Some(script),
+    }
+}
+
+// Writes a text: the status is the one named, or 4 where the sink failed.
+fn written<K: Sink>(out: &mut K, text: &str, status: u8) -> u8
+    ensures { IsWritten result status }
+{
+    match write_all(out, text.as_bytes()) {
+        Ok(()) => status,
+        Err(_) => 4,
+    }
+}
