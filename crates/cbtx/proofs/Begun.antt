@@ -40,14 +40,16 @@ opening-is script it = ap (λ s. opening_of s.docs) it.is
 
 pub bodies-fit : (script : Script) (s : State) → IsOneReplace script → s ≡ opening_of script.docs → HasFitBodies s
 bodies-fit script s it is = subst (λ x. HasFitBodies x) (sym (is ∙ opening-is script it)) (record {
-  each = λ doc d there. ap doc_fits (sym (found-one it.fields.id doc (first_state 1 it.old (tree.Object [])) d (is_eq (doc_cmp doc it.fields.id)) there)) ∙ fit })
+  each = λ doc d there. ap doc_fits (sym (found-one it.fields.id doc (first_state 1 it.old (tree.Object [])) d (is_eq (doc_cmp doc it.fields.id)) there)) ∙ fit;
+})
   where
     fit : doc_fits (first_state 1 it.old (tree.Object [])) ≡ true
     fit = ap (λ b. b && true) (body_fits_of-fits it.old it.old_body)
 
 pub attributes-fit : (script : Script) (s : State) → IsOneReplace script → s ≡ opening_of script.docs → HasFitAttributes s
 attributes-fit script s it is = subst (λ x. HasFitAttributes x) (sym (is ∙ opening-is script it)) (record {
-  each = λ doc d there. ap (λ x. body_fits_of x.attrs) (sym (found-one it.fields.id doc (first_state 1 it.old (tree.Object [])) d (is_eq (doc_cmp doc it.fields.id)) there)) ∙ empty-object })
+  each = λ doc d there. ap (λ x. body_fits_of x.attrs) (sym (found-one it.fields.id doc (first_state 1 it.old (tree.Object [])) d (is_eq (doc_cmp doc it.fields.id)) there)) ∙ empty-object;
+})
 
 -- the body fits
 pub new-fits : (script : Script) (r : Replacement) → (it : IsOneReplace script) → Does r it.fields it.new → BodyFits r.body.now
@@ -61,4 +63,5 @@ begun script r s0 h it does is none = record {
   attrs = tree.Object [];
   last = 1;
   cas = 1;
-  is = ap (λ x. now_of s0 x) none ∙ is ∙ opening-is script it ∙ ap (λ id. opening_of ((id, it.old, tree.Object []) ∷ [])) (sym does.doc) }
+  is = ap (λ x. now_of s0 x) none ∙ is ∙ opening-is script it ∙ ap (λ id. opening_of ((id, it.old, tree.Object []) ∷ [])) (sym does.doc);
+}

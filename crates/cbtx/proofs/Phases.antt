@@ -35,12 +35,14 @@ module _ (t : Task) (s0 : State) (h h' : List Event) (actor : ℕ) (st : Step) (
     cas = cas;
     body = Some t.old;
     stage = None;
-    is = λ c. ap (λ x. row (now_of s0 h) c x) same ∙ ap (λ x. row x c (read_step t)) here.is ∙ row-read t here.last cas c }
+    is = λ c. ap (λ x. row (now_of s0 h) c x) same ∙ ap (λ x. row x c (read_step t)) here.is ∙ row-read t here.last cas c;
+  }
 
   pub after-read : (cas : ℕ) → Called s0 h h' actor st place → st ≡ read_step t → IsAt (λ l. opened t l cas) (now_of s0 h) → IsAt (λ l. opened t l cas) (now_of s0 h')
   after-read cas it same here = record {
     last = clock_read here.last it.reading;
-    is = led s0 h h' actor st (read_step t) place (opened t here.last cas) it same here.is ∙ state-read t here.last cas it.reading }
+    is = led s0 h h' actor st (read_step t) place (opened t here.last cas) it same here.is ∙ state-read t here.last cas it.reading;
+  }
 
   pub takes-entry : (cas : ℕ) → st ≡ entry_step t → IsAt (λ l. opened t l cas) (now_of s0 h) → Takes (now_of s0 h) st
   takes-entry cas same here c =
@@ -50,7 +52,8 @@ module _ (t : Task) (s0 : State) (h h' : List Event) (actor : ℕ) (st : Step) (
   after-entry cas c it same here = record {
     last = clock_mutated here.last it.call.reading;
     is = led s0 h h' actor st (entry_step t) place (opened t here.last cas) it.call same here.is ∙ state-entry t here.last cas it.call.reading
-        ∙ ap (λ x. entered t (clock_mutated here.last it.call.reading) cas x) (stamped s0 h h' actor st place c (opened t here.last cas) it here.is) }
+        ∙ ap (λ x. entered t (clock_mutated here.last it.call.reading) cas x) (stamped s0 h h' actor st place c (opened t here.last cas) it here.is);
+  }
 
   pub takes-stage : (cas start : ℕ) → st ≡ stage_step t cas → IsAt (λ l. entered t l cas start) (now_of s0 h) → Takes (now_of s0 h) st
   takes-stage cas start same here c =
@@ -60,7 +63,8 @@ module _ (t : Task) (s0 : State) (h h' : List Event) (actor : ℕ) (st : Step) (
   after-stage cas start c it same here = record {
     last = clock_mutated here.last it.call.reading;
     is = led s0 h h' actor st (stage_step t cas) place (entered t here.last cas start) it.call same here.is ∙ state-stage t here.last cas start it.call.reading
-        ∙ ap (λ x. staged t (clock_mutated here.last it.call.reading) x start) (stamped s0 h h' actor st place c (entered t here.last cas start) it here.is) }
+        ∙ ap (λ x. staged t (clock_mutated here.last it.call.reading) x start) (stamped s0 h h' actor st place c (entered t here.last cas start) it here.is);
+  }
 
   pub takes-commit : (cas start : ℕ) → st ≡ commit_step t → IsAt (λ l. staged t l cas start) (now_of s0 h) → Takes (now_of s0 h) st
   takes-commit cas start same here c =
@@ -69,7 +73,8 @@ module _ (t : Task) (s0 : State) (h h' : List Event) (actor : ℕ) (st : Step) (
   pub after-commit : (cas start c : ℕ) → Changed s0 h h' actor st place c → st ≡ commit_step t → IsAt (λ l. staged t l cas start) (now_of s0 h) → IsAt (λ l. committed t l cas start) (now_of s0 h')
   after-commit cas start c it same here = record {
     last = clock_mutated here.last it.call.reading;
-    is = led s0 h h' actor st (commit_step t) place (staged t here.last cas start) it.call same here.is ∙ state-commit t here.last cas start it.call.reading }
+    is = led s0 h h' actor st (commit_step t) place (staged t here.last cas start) it.call same here.is ∙ state-commit t here.last cas start it.call.reading;
+  }
 
   pub takes-publish : (cas start : ℕ) → st ≡ publish_step t cas → IsAt (λ l. committed t l cas start) (now_of s0 h) → Takes (now_of s0 h) st
   takes-publish cas start same here c =
@@ -79,7 +84,8 @@ module _ (t : Task) (s0 : State) (h h' : List Event) (actor : ℕ) (st : Step) (
   after-publish cas start c it same here = record {
     last = clock_mutated here.last it.call.reading;
     is = led s0 h h' actor st (publish_step t cas) place (committed t here.last cas start) it.call same here.is ∙ state-publish t here.last cas start it.call.reading
-        ∙ ap (λ x. published t (clock_mutated here.last it.call.reading) x start) (stamped s0 h h' actor st place c (committed t here.last cas start) it here.is) }
+        ∙ ap (λ x. published t (clock_mutated here.last it.call.reading) x start) (stamped s0 h h' actor st place c (committed t here.last cas start) it here.is);
+  }
 
   pub takes-drop : (cas start : ℕ) → st ≡ drop_step t → IsAt (λ l. published t l cas start) (now_of s0 h) → Takes (now_of s0 h) st
   takes-drop cas start same here c =

@@ -37,12 +37,15 @@ told s0 old new actor step fate place r adds plain at answered = record {
   reading = adds.reading;
   added = grown;
   answer = same (sym answered ∙ ap (λ i. reply_at s0 new i) at ∙ ap (λ h. reply_at s0 h (length old)) grown ∙ reply_at-next s0 old e);
-  state = ap (λ h. now_of s0 h) grown ∙ after-whole s0 old e }
+  state = ap (λ h. now_of s0 h) grown ∙ after-whole s0 old e;
+}
   where
     e : Event
     e = plain_event actor step adds.reading
+
     grown : new ≡ old ++ plain_event actor step adds.reading ∷ []
     grown = adds.added ∙ ap (λ x. old ++ record { actor = actor; step = step; fate = x; reading = adds.reading } ∷ []) plain
+
     same : {x y : Reply} → Some x ≡ Some y → x ≡ y
     same both = cc
 
@@ -59,7 +62,8 @@ pub change_told : (s0 : State) (old new : List Event) (actor : ℕ) (step : Step
     → Told s0 old new actor step r → place ≡ length old → Takes (now_of s0 old) step → r ≡ reply.Done cas → Changed s0 old new actor step place cas
 change_told s0 old new actor step place cas r it at takes is = record {
   call = called s0 old new actor step place r it at;
-  stamp = same (sym is ∙ done-is s0 old new actor step r it takes) }
+  stamp = same (sym is ∙ done-is s0 old new actor step r it takes);
+}
   where
     same : {x y : ℕ} → reply.Done x ≡ reply.Done y → x ≡ y
     same both = cc

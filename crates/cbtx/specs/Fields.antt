@@ -16,8 +16,8 @@ seen o = option_map (λ p. (p.0.now, p.1.now)) o
 abbrev pub cut_at : ℕ → List ℕ → Option (List ℕ × List ℕ)
 cut_at b text =
     if nat_lt (position_or_len (λ x. x == b) text) (length text)
-      then Some (before_first (λ x. x == b) text, after_first (λ x. x == b) text)
-      else None
+    then Some (before_first (λ x. x == b) text, after_first (λ x. x == b) text)
+    else None
 
 -- what stands behind a word and one space
 abbrev pub rest_if : List ℕ → List ℕ × List ℕ → Option (List ℕ)

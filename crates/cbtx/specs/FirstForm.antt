@@ -52,8 +52,8 @@ client_line line = do
 abbrev pub closed : List ℕ → List ℕ → List ℕ → List ℕ → Fields → Option Fields
 closed begin again commit rest fields =
     if bytes_eq begin (codes "begin") && bytes_eq again fields.id && bytes_eq commit (codes "commit") && (length rest == 0)
-      then Some fields
-      else None
+    then Some fields
+    else None
 
 -- the six lines, each up to its line feed
 unfoldable pub first_fields : List ℕ → Option Fields
@@ -92,10 +92,19 @@ first_plan id new = record { ops = op.Replace id (record { value = new }) ∷ []
 -- the script that such fields say, with these bodies
 abbrev pub script_with : Fields → Tree → Tree → Script
 script_with f old new = record {
-    atrs = 16; expiry = default_expiry; tries = 8; lapse = 60000; line = Some (f.start, f.step);
-    docs = (f.id, old, tree.Object []) ∷ [];
-    clients = (f.client, record { txns = first_plan f.id new ∷ [] }) ∷ [];
-    cleaners = []; stops = []; faults = record { fates = [] }; order = []; sweep = None }
+  atrs = 16;
+  expiry = default_expiry;
+  tries = 8;
+  lapse = 60000;
+  line = Some (f.start, f.step);
+  docs = (f.id, old, tree.Object []) ∷ [];
+  clients = (f.client, record { txns = first_plan f.id new ∷ [] }) ∷ [];
+  cleaners = [];
+  stops = [];
+  faults = record { fates = [] };
+  order = [];
+  sweep = None;
+}
 
 -- these bytes are a script of the first form, and this one
 pub record IsFirstForm (bytes : List ℕ) (script : Script) : Type 0 where

@@ -10,8 +10,8 @@ ghost use Rattle.cbtx.specs.Fields.{seen};
 ghost use Rattle.cbtx.specs.FirstForm.{clock_line, body_line, client_line, first_fields, fields_seen, fields_at, IsBody, IsFirstForm, script_with};
 ghost use Rattle.cbtx.specs.declared.form.FormFault.TheVariants.{NoMemory as WantOfMemory};
 
-use crate::lists::only;
 use crate::fields::{after_word, is_a_name, line, number, word};
+use crate::lists::only;
 use cbt_base::{DocId, Duplicate, IdFault, List, NoMemory, Text};
 use cbt_expr::{ClientPlan, Expr, Op, TxnPlan};
 use cbt_json::{Json, JsonFault, Tree};
@@ -178,7 +178,13 @@ fn body(alloc: Global, text: &str) -> Result<Json, FormFault>
 }
 
 // The script that the fields say, with these parts of it read.
-fn script(alloc: Global, fields: &Fields<'_>, id: DocId, old: Json, new: Json) -> Result<Script, NoMemory>
+fn script(
+    alloc: Global,
+    fields: &Fields<'_>,
+    id: DocId,
+    old: Json,
+    new: Json,
+) -> Result<Script, NoMemory>
     requires { id ≡ fields.now.id.now }
     ensures { IfOk result (λ script. script ≡ script_with (fields_at fields.now) old new) }
 {

@@ -10,13 +10,15 @@ mod replacement;
 mod simulation;
 mod still;
 mod system_clock;
+#[cfg(test)]
+mod tests;
 mod words;
 
 use cbt_base::{List, NoMemory, StdSink, StdSource, Text};
-use still::still;
 use std::process::ExitCode;
 use std::rt::Env;
 use std::{env, io};
+use still::still;
 use system_clock::SystemClock;
 
 /// The status of a run that found no memory for its words.

@@ -22,7 +22,11 @@ struct Done {
 
 /// Makes the six calls: it reads the document, adds the entry, stages the body, commits, publishes
 /// the body, and drops the entry.
-pub fn replace_once<N: Node>(alloc: Global, node: &mut N, it: Replacement<'_>) -> Result<ClientLog, NoMemory>
+pub fn replace_once<N: Node>(
+    alloc: Global,
+    node: &mut N,
+    it: Replacement<'_>,
+) -> Result<ClientLog, NoMemory>
     requires faults { NoFaults (N.terms node.old) }
     requires fits { BodyFits it.body.now }
     requires begins { Begins it (now_of (N.opening node.old) (N.history node.old)) }
@@ -35,7 +39,14 @@ pub fn replace_once<N: Node>(alloc: Global, node: &mut N, it: Replacement<'_>) -
     let committed = change(node, it.actor, it.commit_step(alloc)?)?;
     change(node, it.actor, it.publish_step(alloc, staged.cas)?)?;
     let dropped = change(node, it.actor, it.drop_step())?;
-    log(alloc, it.attempt(), read.place, staged.place, committed.place, dropped.place)
+    log(
+        alloc,
+        it.attempt(),
+        read.place,
+        staged.place,
+        committed.place,
+        dropped.place,
+    )
 }
 
 // Reads a document that is there.
@@ -82,7 +93,14 @@ fn change<N: Node>(node: &mut N, actor: u32, step: Step) -> Result<Done, NoMemor
 }
 
 // The log of a transaction whose one attempt replaced a document, by the places of its calls.
-fn log(alloc: Global, attempt: Id, read: u64, staged: u64, committed: u64, dropped: u64) -> Result<ClientLog, NoMemory>
+fn log(
+    alloc: Global,
+    attempt: Id,
+    read: u64,
+    staged: u64,
+    committed: u64,
+    dropped: u64,
+) -> Result<ClientLog, NoMemory>
     requires { (staged < 2 ^ 62) × (dropped < 2 ^ 62) }
 {
     let op = OpLog {

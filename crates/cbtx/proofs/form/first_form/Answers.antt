@@ -12,4 +12,5 @@ returns-clause-ok c = record {
   old_body = c.in_ok-old.ensures.ok;
   new = c.in_ok-new.new;
   new_body = c.in_ok-new.ensures.ok;
-  is = c.in_ok-script.ensures }
+  is = c.in_ok-script.ensures;
+}

@@ -1,0 +1,131 @@
+//! The program over streams in memory.
+
+use crate::still::{Ran, still};
+use cbt_base::{List, MemSink, MemSource, NoMemory, StepClock, Text};
+use cbt_model::{Event, Fate, Step};
+use std::alloc::Global;
+use std::test::Fail;
+
+const ONE_REPLACE: &[u8] =
+    b"clock 1000 1\ndoc a {\"n\":1}\nclient c1\nbegin\nreplace a {\"n\":2}\ncommit\n";
+
+const REPORT: &[u8] =
+    b"history 6\ncommitted 1\ntxn c1 1 committed\ndoc a {\"n\":2}\nstaged 0\ndead 0\nentries 0\n";
+
+const USAGE: &[u8] =
+    b"usage: cbtx sim [--history] | run [--history] | gen --seed N [--clients N] [--accounts N] [--transfers N] [--sim]\n";
+
+// What a run left, and what it wrote.
+#[derive(Drop)]
+struct Seen {
+    ran: Ran,
+    written: List<u8>,
+}
+
+// Runs the program on an input; reads and writes with these numbers fail.
+fn run(
+    alloc: Global,
+    words: &[&str],
+    input: &[u8],
+    failing_reads: &[u64],
+    failing_writes: &[u64],
+) -> Result<Seen, NoMemory> {
+    let mut all = List::new(alloc);
+    for word in words {
+        all.push(Text::from_str(alloc, word)?)?;
+    }
+    let bytes = List::from_slice(alloc, input)?;
+    let mut src = MemSource::new(bytes, 7, List::from_slice(alloc, failing_reads)?);
+    let mut out = MemSink::new(
+        List::new(alloc),
+        5,
+        List::from_slice(alloc, failing_writes)?,
+    );
+    let clock = StepClock { next: 0, step: 1 };
+    let ran = still(alloc, all.as_slice(), &mut src, &mut out, clock);
+    let MemSink {
+        bytes,
+        chunk: _,
+        fails: _,
+        calls: _,
+        faults: _,
+    } = out;
+    Ok(Seen {
+        ran,
+        written: bytes,
+    })
+}
+
+// What an event of `one_replace` is to be, by its step.
+fn is_in_place(place: usize, event: &Event) -> bool {
+    let step = match &event.step {
+        Step::ReadDoc { doc } => place == 0 && doc.as_str() == "a",
+        Step::AddEntry { atr, exp, .. } => place == 1 && *atr == 12 && *exp == 15_000,
+        Step::Stage { doc, .. } => place == 2 && doc.as_str() == "a",
+        Step::Commit { lists, .. } => place == 3 && lists.rep.len() == 1,
+        Step::Publish { cas, .. } => place == 4 && *cas == 1_001_979_904,
+        Step::DropEntry { guarded, .. } => place == 5 && !*guarded,
+        _ => false,
+    };
+    step && event.actor == 1 && event.fate == Fate::Plain && event.reading == 1000 + place as u64
+}
+
+#[test]
+fn one_replace(rt: HostRuntime) -> Result<(), Fail> {
+    let seen = run(rt.alloc(), &["sim"], ONE_REPLACE, &[], &[])?;
+    assert_eq!(rt; seen.ran.status, 0);
+    assert_eq!(rt; seen.written.as_slice(), REPORT);
+    let book = seen.ran.book.as_ref().expect(&rt, "a book");
+    assert_eq!(rt; book.kept.history.len(), 6);
+    for (place, event) in book.kept.history.iter().enumerate() {
+        assert!(rt; is_in_place(place, event), "at {place}");
+    }
+    assert_eq!(rt; book.clients.len(), 1);
+    Ok(())
+}
+
+#[test]
+fn other_input_is_not_built(rt: HostRuntime) -> Result<(), Fail> {
+    let inputs: [&[u8]; 6] = [
+        b"",
+        b"clock 1000 1\n",
+        b"clock 01000 1\ndoc a {}\nclient c1\nbegin\nreplace a {}\ncommit\n",
+        b"clock 1000 1001\ndoc a {}\nclient c1\nbegin\nreplace a {}\ncommit\n",
+        b"clock 1000 1\ndoc a 1.5\nclient c1\nbegin\nreplace a {}\ncommit\n",
+        b"clock 1000 1\ndoc a {}\nclient sweep\nbegin\nreplace a {}\ncommit\n",
+    ];
+    for input in inputs {
+        let seen = run(rt.alloc(), &["sim"], input, &[], &[])?;
+        assert_eq!(rt; seen.ran.status, 1);
+        assert_eq!(rt;
+            seen.written.as_slice(),
+            b"script refused: NotBuilt\n".as_slice()
+        );
+        assert!(rt; seen.ran.book.is_none());
+    }
+    Ok(())
+}
+
+#[test]
+fn other_words_are_usage(rt: HostRuntime) -> Result<(), Fail> {
+    let words: [&[&str]; 4] = [&[], &["run"], &["sim", "--history"], &["--help"]];
+    for words in words {
+        let seen = run(rt.alloc(), words, ONE_REPLACE, &[], &[])?;
+        assert_eq!(rt; seen.ran.status, 2);
+        assert_eq!(rt; seen.written.as_slice(), USAGE);
+    }
+    Ok(())
+}
+
+#[test]
+fn stream_faults(rt: HostRuntime) -> Result<(), Fail> {
+    let seen = run(rt.alloc(), &["sim"], ONE_REPLACE, &[1], &[])?;
+    assert_eq!(rt; seen.ran.status, 3);
+    assert_eq!(rt; seen.written.len(), 0);
+    let seen = run(rt.alloc(), &["sim"], ONE_REPLACE, &[], &[1])?;
+    assert_eq!(rt; seen.ran.status, 4);
+    assert_eq!(rt; seen.written.len(), 0);
+    let book = seen.ran.book.as_ref().expect(&rt, "a book");
+    assert_eq!(rt; book.kept.history.len(), 6);
+    Ok(())
+}
