@@ -8,3 +8,4 @@ pub mod Fitted
 pub mod KeptMembers
 pub mod Moves
 pub mod FitBodies
+pub mod Answered
