@@ -9,3 +9,4 @@ pub mod KeptMembers
 pub mod Moves
 pub mod FitBodies
 pub mod Answered
+pub mod Effects
