@@ -1,9 +1,9 @@
 -- Each event of a history takes effect, or changes nothing but the clock: fates and refusals are seen no more above this.
-use Rattle.std.proofs.Common.{◌≡◌, ◌≢◌, ℕ, suc, ◌+◌, ◌<◌, ◌≤◌, max, Bool, true, false, ◌⊎◌, inl, inr, List, Option, Some, None, refl, sym, ap, ◌∙◌, subst, arith, slice_get}
-use Rattle.cbt_base.specs.Clock.{clock_of, clock_read, clock_mutated}
+use Rattle.std.proofs.Common.{◌≡◌, ◌≢◌, ℕ, suc, ◌≤◌, Bool, true, false, ◌⊎◌, inl, inr, List, Option, Some, None, refl, sym, ap, ◌∙◌, subst, arith, slice_get}
+use Rattle.cbt_base.specs.Clock.{clock_read, clock_mutated}
 use Rattle.cbt_model.specs.History.{is_done, by_fate, row_at_event, happens, happens_maybe, after, TakesEffect}
 use Rattle.cbt_model.specs.Keys.{IsOrdered, doc_at, entry_at}
-use Rattle.cbt_model.specs.Table.{Row, Change, Nothing, SetsDoc, SetsEntry, DropsEntry, SetsClients, row, changed}
+use Rattle.cbt_model.specs.Table.{changed}
 use Rattle.cbt_model.specs.declared.events.Event.{Event}
 use Rattle.cbt_model.specs.declared.events.Fate.{Fate}
 use Rattle.cbt_model.specs.declared.events.Fate.TheVariants.{Plain, Lost, Late}
@@ -28,10 +28,12 @@ module _ (s0 : State) (h : List Event) (i : ℕ) where
     where
       none : slice_get h i ≡ None → IsQuiet (after s0 h i) (after s0 h (suc i))
       none at = subst (IsQuiet (after s0 h i)) (sym (ap (λ o. happens_maybe (after s0 h i) o) at)) (record { docs = refl; entries = refl; clients = refl; clock = omega arith })
+
       quiet : (e : Event) → slice_get h i ≡ Some e → (happens (after s0 h i) e ≡ record (after s0 h i) { last = clock_read (after s0 h i).last e.reading })
           → IsQuiet (after s0 h i) (after s0 h (suc i))
       quiet e at is =
           subst (IsQuiet (after s0 h i)) (sym (ap (λ o. happens_maybe (after s0 h i) o) at ∙ is)) (quiet-read (after s0 h i) e.reading)
+
       refused_row : (e : Event) (f : Fate) → is_done (row_at_event (after s0 h i) e).reply ≡ false
           → changed (after s0 h i) e.reading (by_fate f (row_at_event (after s0 h i) e)).change ≡ record (after s0 h i) { last = clock_read (after s0 h i).last e.reading }
       refused_row e Plain not_done =
@@ -39,12 +41,15 @@ module _ (s0 : State) (h : List Event) (i : ℕ) where
       refused_row e Lost not_done = refl
       refused_row e Late not_done =
           ap (λ change. changed (after s0 h i) e.reading change) (quiet_row (after s0 h i) (clock_mutated (after s0 h i).last e.reading) e.step not_done)
+
       lost_row : (e : Event) → e.fate ≡ Lost → happens (after s0 h i) e ≡ record (after s0 h i) { last = clock_read (after s0 h i).last e.reading }
       lost_row e is = ap (λ f. changed (after s0 h i) e.reading (by_fate f (row_at_event (after s0 h i) e)).change) is
+
       by_answer : (e : Event) → slice_get h i ≡ Some e → e.fate ≢ Lost → (b : Bool) → is_done (row_at_event (after s0 h i) e).reply ≡ b
           → IsQuiet (after s0 h i) (after s0 h (suc i)) ⊎ ((x : Event) × TakesEffect s0 h i x)
       by_answer e at here true done = inr (e, record { event = at; not_lost = here; done = done })
       by_answer e at here false not_done = inl (quiet e at (refused_row e e.fate not_done))
+
       by_fate_of : (e : Event) → slice_get h i ≡ Some e → (f : Fate) → e.fate ≡ f → IsQuiet (after s0 h i) (after s0 h (suc i)) ⊎ ((x : Event) × TakesEffect s0 h i x)
       by_fate_of e at Plain is = by_answer e at (λ q. plain_lost (sym is ∙ q)) _ refl
         where
@@ -55,6 +60,7 @@ module _ (s0 : State) (h : List Event) (i : ℕ) where
         where
           late_lost : Late ≡ Lost → ⊥
           late_lost q = cc
+
       go : (o : Option Event) → slice_get h i ≡ o → IsQuiet (after s0 h i) (after s0 h (suc i)) ⊎ ((e : Event) × TakesEffect s0 h i e)
       go None at = inl (none at)
       go (Some e) at = by_fate_of e at e.fate refl

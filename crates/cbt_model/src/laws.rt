@@ -28,10 +28,10 @@ pub fn done_steps_have_their_stamp()
 
 /// A step changes at most one document, one entry, or the rows of the client record.
 pub fn steps_change_one_key()
-    ensures documents { (s : State) (r : ℕ) (step : Step) (doc : List ℕ) → touches_doc step ≢ Some doc
-        → doc_at (apply_to s r step).0 doc ≡ doc_at s doc }
-    ensures entries { (s : State) (r : ℕ) (step : Step) (key : ℕ × ℕ) → IsOrdered s → touches step ≢ Some key
-        → entry_at (apply_to s r step).0 key ≡ entry_at s key }
+    ensures documents { (s : State) (r : ℕ) (step : Step) (doc : List ℕ)
+        → touches_doc step ≢ Some doc → doc_at (apply_to s r step).0 doc ≡ doc_at s doc }
+    ensures entries { (s : State) (r : ℕ) (step : Step) (key : ℕ × ℕ)
+        → IsOrdered s → touches step ≢ Some key → entry_at (apply_to s r step).0 key ≡ entry_at s key }
     ensures either { (step : Step) → (touches_doc step ≡ None) ⊎ (touches step ≡ None) }
 {}
 
@@ -42,7 +42,9 @@ pub fn fates_of_calls()
         → happens s e ≡ record s { last = clock_read s.last e.reading } }
     ensures others { (s : State) (e : Event) → e.fate ≢ Fate.Lost
         → happens s e ≡ (apply_to s e.reading e.step).0 }
-    ensures failed { (s : State) (e : Event) → e.fate ≢ Fate.Plain → (outcome s e).reply ≡ Reply.Failed }
+    ensures failed { (s : State) (e : Event) → e.fate ≢ Fate.Plain
+        → (outcome s e).reply ≡ Reply.Failed }
     ensures plain { (s : State) (e : Event) → e.fate ≡ Fate.Plain
-        → ((outcome s e).reply ≡ (apply_to s e.reading e.step).1) × ((outcome s e).reply ≢ Reply.Failed) }
+        → ((outcome s e).reply ≡ (apply_to s e.reading e.step).1)
+        × ((outcome s e).reply ≢ Reply.Failed) }
 {}

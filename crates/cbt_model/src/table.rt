@@ -20,7 +20,8 @@ use std::alloc::Global;
 /// On `NoMemory` nothing has changed.
 pub fn apply(alloc: Global, state: &mut State, reading: u64, step: &Step) -> Result<Reply, NoMemory>
     requires { state.old.last < 2 ^ 64 - 65537 }
-    ensures table { IfOk result (λ reply. (state.new, reply) ≡ apply_to state.old reading step.now) }
+    ensures table { IfOk result (λ reply.
+        (state.new, reply) ≡ apply_to state.old reading step.now) }
     ensures refused { OnErr result (state.new ≡ state.old) }
     ensures clock { state.new.last ≤ max (state.old.last + 1) (2 ^ 63) }
     ensures fits { HasFitBodies state.old → IfOk result (λ reply. IsTrue (fits step.now reply)) }
@@ -215,7 +216,8 @@ fn stage_new(
     requires { state.old.last < 2 ^ 64 - 65537 }
     ensures row { IfOk result (λ reply. (state.new, reply)
         ≡ made state.old reading
-        (stage_row (clock_mutated state.old.last reading) doc.now Expect.New stage.now (doc_at state.old doc.now))) }
+        (stage_row (clock_mutated state.old.last reading)
+        doc.now Expect.New stage.now (doc_at state.old doc.now))) }
     ensures refused { OnErr result (state.new ≡ state.old) }
     ensures clock { state.new.last ≤ max (state.old.last + 1) (2 ^ 63) }
 {
@@ -243,7 +245,8 @@ fn stage_over(
     requires { state.old.last < 2 ^ 64 - 65537 }
     ensures row { IfOk result (λ reply. (state.new, reply)
         ≡ made state.old reading
-        (stage_row (clock_mutated state.old.last reading) doc.now (Expect.Cas cas) stage.now (doc_at state.old doc.now))) }
+        (stage_row (clock_mutated state.old.last reading)
+        doc.now (Expect.Cas cas) stage.now (doc_at state.old doc.now))) }
     ensures refused { OnErr result (state.new ≡ state.old) }
     ensures clock { state.new.last ≤ max (state.old.last + 1) (2 ^ 63) }
 {
@@ -275,7 +278,8 @@ fn publish(
     requires { state.old.last < 2 ^ 64 - 65537 }
     ensures row { IfOk result (λ reply. (state.new, reply)
         ≡ made state.old reading
-        (publish_row (clock_mutated state.old.last reading) doc.now cas body.now (doc_at state.old doc.now))) }
+        (publish_row (clock_mutated state.old.last reading)
+        doc.now cas body.now (doc_at state.old doc.now))) }
     ensures refused { OnErr result (state.new ≡ state.old) }
     ensures clock { state.new.last ≤ max (state.old.last + 1) (2 ^ 63) }
 {
@@ -308,7 +312,8 @@ fn delete(
     requires { state.old.last < 2 ^ 64 - 65537 }
     ensures row { IfOk result (λ reply. (state.new, reply)
         ≡ made state.old reading
-        (delete_row (clock_mutated state.old.last reading) doc.now cas (doc_at state.old doc.now))) }
+        (delete_row (clock_mutated state.old.last reading)
+        doc.now cas (doc_at state.old doc.now))) }
     ensures refused { OnErr result (state.new ≡ state.old) }
     ensures clock { state.new.last ≤ max (state.old.last + 1) (2 ^ 63) }
 {
@@ -341,7 +346,8 @@ fn unstick(
     requires { state.old.last < 2 ^ 64 - 65537 }
     ensures row { IfOk result (λ reply. (state.new, reply)
         ≡ made state.old reading
-        (unstick_row (clock_mutated state.old.last reading) doc.now cas (doc_at state.old doc.now))) }
+        (unstick_row (clock_mutated state.old.last reading)
+        doc.now cas (doc_at state.old doc.now))) }
     ensures refused { OnErr result (state.new ≡ state.old) }
     ensures clock { state.new.last ≤ max (state.old.last + 1) (2 ^ 63) }
 {
@@ -426,7 +432,8 @@ fn decide(
     requires { state.old.last < 2 ^ 64 - 65537 }
     ensures row { IfOk result (λ reply. (state.new, reply)
         ≡ made state.old reading
-        (decide_row (clock_mutated state.old.last reading) key decided lists.now (entry_at state.old key))) }
+        (decide_row (clock_mutated state.old.last reading)
+        key decided lists.now (entry_at state.old key))) }
     ensures refused { OnErr result (state.new ≡ state.old) }
     ensures clock { state.new.last ≤ max (state.old.last + 1) (2 ^ 63) }
 {
@@ -453,7 +460,8 @@ fn drop_entry(state: &mut State, reading: u64, key: (u16, Id), guarded: bool) ->
     requires { state.old.last < 2 ^ 64 - 65537 }
     ensures row { (state.new, result)
         ≡ made state.old reading
-        (drop_entry_row (clock_mutated state.old.last reading) key guarded (entry_at state.old key)) }
+        (drop_entry_row (clock_mutated state.old.last reading)
+        key guarded (entry_at state.old key)) }
     ensures clock { state.new.last ≤ max (state.old.last + 1) (2 ^ 63) }
 {
     let reply = match state.entries.get(&key) {
@@ -547,7 +555,8 @@ fn beat(
     requires { state.old.last < 2 ^ 64 - 65537 }
     ensures row { IfOk result (λ reply. (state.new, reply)
         ≡ made state.old reading
-        (takes (clock_mutated state.old.last reading) (SetsClients (without_gone me gone.now (with_pair id_cmp state.old.clients me row))))) }
+        (takes (clock_mutated state.old.last reading) (SetsClients
+        (without_gone me gone.now (with_pair id_cmp state.old.clients me row))))) }
     ensures refused { OnErr result (state.new ≡ state.old) }
     ensures clock { state.new.last ≤ max (state.old.last + 1) (2 ^ 63) }
 {
