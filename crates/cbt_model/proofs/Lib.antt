@@ -8,3 +8,5 @@ pub mod Fitted
 pub mod KeptMembers
 pub mod Moves
 pub mod FitBodies
+pub mod Answered
+pub mod Effects

@@ -1,43 +1,26 @@
 -- What one step makes of one entry and of one document, by look-ups: the state before, the stamp c, the step, the key, and
 -- what stands at the key afterwards.
-use Rattle.std.proofs.Common.{◌≡◌, ◌≢◌, ℕ, Bool, true, false, ◌⊎◌, ⊎_elim, List, [], Option, Some, None, refl, sym, ap, ◌∙◌, subst}
+use Rattle.std.proofs.Common.{◌≡◌, ◌≢◌, ℕ, Bool, true, false, ⊎_elim, List, Option, Some, None, refl, sym, ap, ◌∙◌}
 use Rattle.std.specs.Ordering.{is_eq}
+use Rattle.cbt_base.specs.Clock.{clock_mutated}
 use Rattle.cbt_json.specs.declared.value.Json.{Json}
 use Rattle.cbt_model.specs.Attributes.{no_attributes, kept_attributes}
 use Rattle.cbt_model.specs.History.{is_done}
 use Rattle.cbt_model.specs.Keys.{IsOrdered, doc_cmp, entry_cmp, doc_at, entry_at}
-use Rattle.cbt_model.specs.Table.{Row, Nothing, SetsDoc, SetsEntry, DropsEntry, changed, refused, takes, row, may_drop, no_lists}
+use Rattle.cbt_model.specs.Table.{Row, Nothing, SetsDoc, SetsEntry, DropsEntry, changed, row, may_drop, no_lists, touches, touches_doc}
 use Rattle.cbt_model.specs.declared.documents.DocState.{DocState}
 use Rattle.cbt_model.specs.declared.documents.Stage.{Stage}
 use Rattle.cbt_model.specs.declared.entries.Entry.{Entry}
-use Rattle.cbt_model.specs.declared.entries.EntryState.{EntryState}
 use Rattle.cbt_model.specs.declared.entries.EntryState.TheVariants.{Pending, Committed, Aborted}
 use Rattle.cbt_model.specs.declared.entries.Lists.{Lists}
 use Rattle.cbt_model.specs.declared.states.State.{State}
 use Rattle.cbt_model.specs.declared.steps.Expect.TheVariants as expect
-use Rattle.cbt_model.specs.declared.steps.Reply.{Reply}
 use Rattle.cbt_model.specs.declared.steps.Reply.TheVariants as reply
 use Rattle.cbt_model.specs.declared.steps.Step.{Step}
 use Rattle.cbt_model.specs.declared.steps.Step.TheVariants as step
 use Rattle.cbt_model.proofs.Does.{Does, does, refuses, stages_new, stages_over, publishes, deletes, unsticks, adds, commits, aborts, drops, beats}
 use Rattle.cbt_model.proofs.Lookups.{set_there, set_elsewhere, gone_there, gone_elsewhere}
-use Rattle.cbt_model.proofs.Orders.{IsKeyOrder, doc_order, entry_order, key_cases}
-
--- the entry that a step changes where it takes effect
-abbrev pub touches : Step → Option (ℕ × ℕ)
-touches (step.AddEntry r a exp) = Some (r, a)
-touches (step.Commit r a lists) = Some (r, a)
-touches (step.Abort r a lists) = Some (r, a)
-touches (step.DropEntry r a guarded) = Some (r, a)
-touches _ = None
-
--- the document that a step changes where it takes effect
-abbrev pub touches_doc : Step → Option (List ℕ)
-touches_doc (step.Stage d e stage) = Some d
-touches_doc (step.Publish d x body) = Some d
-touches_doc (step.Delete d x) = Some d
-touches_doc (step.Unstick d x) = Some d
-touches_doc _ = None
+use Rattle.cbt_model.proofs.Orders.{doc_order, entry_order, key_cases}
 
 -- what a step makes of the entry k
 pub data EntryMove (s : State) (c : ℕ) (st : Step) (k : ℕ × ℕ) (next : Option Entry) : Type 0 where
@@ -92,6 +75,20 @@ done-stamp s c (commits r a lists old at pending) is = refl
 done-stamp s c (aborts r a lists old at pending) is = refl
 done-stamp s c (drops r a guarded old at may) is = refl
 done-stamp s c (beats me expires n gone) is = refl
+
+-- a Done row moves the clock to the stamp of a change
+done-clock : (s : State) (c r : ℕ) {st : Step} {it : Row} → Does s c st it → is_done it.reply ≡ true → (changed s r it.change).last ≡ clock_mutated s.last r
+done-clock s c r (refuses st answer not_done) is = absurd (cc)
+done-clock s c r (stages_new d stage at) is = refl
+done-clock s c r (stages_over d x stage old at cas) is = refl
+done-clock s c r (publishes d x body old at cas) is = refl
+done-clock s c r (deletes d x old at cas) is = refl
+done-clock s c r (unsticks d x old at cas) is = refl
+done-clock s c r (adds ar a exp at) is = refl
+done-clock s c r (commits ar a lists old at pending) is = refl
+done-clock s c r (aborts ar a lists old at pending) is = refl
+done-clock s c r (drops ar a guarded old at may) is = refl
+done-clock s c r (beats me expires n gone) is = refl
 
 some_same : {X : Type 0} (x y : X) → Some x ≡ Some y → x ≡ y
 some_same x y e = cc
@@ -191,3 +188,6 @@ quiet_row s c st not_done = not_done-changes_nothing s c (does s c st) not_done
 
 pub done_row : (s : State) (c : ℕ) (st : Step) → is_done (row s c st).reply ≡ true → (row s c st).reply ≡ reply.Done c
 done_row s c st done = done-stamp s c (does s c st) done
+
+pub done_last : (s : State) (c r : ℕ) (st : Step) → is_done (row s c st).reply ≡ true → (changed s r (row s c st).change).last ≡ clock_mutated s.last r
+done_last s c r st done = done-clock s c r (does s c st) done

@@ -23,7 +23,7 @@ fate_of faults actor call = unwrap_or (fault_at faults actor call) Plain
 
 -- a fault that is there already stays
 abbrev pub with_fault_over : Option Fate → Faults → Fault → Faults
-with_fault_over (Some fate) faults fault = faults
+with_fault_over (Some _) faults fault = faults
 with_fault_over None faults fault = record { fates = with_pair call_cmp faults.fates (fault.actor, fault.call) fault.fate }
 
 -- the faults with one more; of two for one call the first counts

@@ -158,3 +158,19 @@ made s r it = (changed s r it.change, it.reply)
 -- a step on a state at a reading: the new state and the reply
 abbrev pub apply_to : State → ℕ → Step → State × Reply
 apply_to s r step = made s r (row s (clock_mutated s.last r) step)
+
+-- the entry that a step changes where it takes effect
+abbrev pub touches : Step → Option (ℕ × ℕ)
+touches (step.AddEntry r a exp) = Some (r, a)
+touches (step.Commit r a lists) = Some (r, a)
+touches (step.Abort r a lists) = Some (r, a)
+touches (step.DropEntry r a guarded) = Some (r, a)
+touches _ = None
+
+-- the document that a step changes where it takes effect
+abbrev pub touches_doc : Step → Option (List ℕ)
+touches_doc (step.Stage d e stage) = Some d
+touches_doc (step.Publish d x body) = Some d
+touches_doc (step.Delete d x) = Some d
+touches_doc (step.Unstick d x) = Some d
+touches_doc _ = None

@@ -11,8 +11,8 @@ use std::alloc::Global;
 
 /// An actor, which calls a node step by step and learns each answer.
 pub trait Actor {
-    /// It stands for its own list: the steps that it made with their answers, newest first. The list
-    /// is not kept at run time.
+    /// It stands for its own list: the steps that it made with their answers, newest first. This
+    /// list is not kept at run time.
     ghost stands_for: { Self → List Made → Type 0 };
 
     /// The step to make now.
@@ -39,13 +39,15 @@ pub trait Actor {
         requires asked { IsSome (step_now self.old) }
         requires fits { (s : Step) → step_now self.old ≡ Some s → IsTrue (fits s answer.reply) }
         requires place { answer.place < 2 ^ 62 }
-        ensures stands { (l : List Made) (s : Step) → step_now self.old ≡ Some s → stands_for self.old l → stands_for self.new (record { step = s; answer = answer } ∷ l) }
+        ensures stands { (l : List Made) (s : Step) → step_now self.old ≡ Some s → stands_for self.old l
+            → stands_for self.new (record { step = s; answer = answer } ∷ l) }
         ensures fewer { calls_left self.new < calls_left self.old }
         ensures ok { OnOk result (is_stopped self.new ≡ is_stopped self.old) }
         ensures refused { OnErr result (is_stopped self.new ≡ true) }
 
         // The number of calls fits its type.
-        ensures last { (l : List Made) → stands_for self.old l → 2 ^ 62 ≤ length l + 1 → IsErr result }
+        ensures last { (l : List Made) → stands_for self.old l → 2 ^ 62 ≤ length l + 1
+            → IsErr result }
         ensures origin { same_origin self.old self.new };
 
     /// How many calls it made. It takes no memory.

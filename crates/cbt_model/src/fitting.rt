@@ -11,8 +11,9 @@ use cbt_json::Json;
 /// How many ids of cleaners that are gone a beat may name.
 const MAX_GONE: usize = 12;
 
-/// Whether a step may be sent to a node: each body and staged content that it carries is a fit body,
-/// a staged content is missing exactly for a remove, and a beat names at most 12 ids that are gone.
+/// Whether a step may be sent to a node: each body and staged content that it carries is a fit
+/// body, a staged content is missing exactly for a remove, and a beat names at most 12 ids that are
+/// gone.
 ///
 /// It takes no memory.
 pub fn step_fits(step: &Step) -> bool

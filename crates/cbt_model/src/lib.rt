@@ -8,6 +8,7 @@ mod documents;
 mod entries;
 mod events;
 mod fitting;
+mod laws;
 mod nodes;
 mod states;
 mod steps;
@@ -19,8 +20,14 @@ pub use documents::{DocState, OpKind, Stage};
 pub use entries::{ClientRow, Entry, EntryState, Lists};
 pub use events::{Answer, Event, Fate, Fault, Faults, Item, Kept, Made, Mark};
 pub use fitting::{fits, step_fits};
+pub use laws::{
+    done_steps_have_their_stamp, fates_of_calls, refused_steps_change_nothing, steps_change_one_key,
+};
 pub use nodes::Node;
 pub use states::State;
 pub use steps::{Expect, Reply, Step};
 pub use table::apply;
 pub use views::{expired, view};
+
+#[cfg(test)]
+mod tests;

@@ -26,7 +26,8 @@ pub trait Node {
     /// Under what it makes its calls.
     ghost terms: { Self → Terms };
 
-    /// Its clock may tell its readings: the i-th call from the beginning is made at the i-th of these.
+    /// Its clock may tell its readings: the i-th call from the beginning is made at the i-th of
+    /// these.
     ghost reads_by: { Self → (ℕ → ℕ) → Type 0 };
 
     /// Makes a call: it adds one event to the history.
@@ -35,12 +36,16 @@ pub trait Node {
     fn call(&mut self, actor: u32, step: Step) -> Result<Answer, NoMemory>
         requires { IsTrue (step_fits step) }
 
-        // The fate is the one that the faults name for the number of this call among the actor's calls.
-        ensures event { OnOk result (AddsOne (history self.old) (history self.new) actor step (fate_of (terms self.old).faults actor (calls_below (history self.old) actor (length (history self.old)) + 1))) }
+        // The fate is the one that the faults name for this call's number among the actor's calls.
+        ensures event { OnOk result (AddsOne (history self.old) (history self.new) actor step
+            (fate_of (terms self.old).faults actor
+            (calls_below (history self.old) actor (length (history self.old)) + 1))) }
         ensures place { IfOk result (λ answer. answer.place ≡ length (history self.old)) }
         ensures small { IfOk result (λ answer. answer.place < 2 ^ 62) }
-        ensures reply { IfOk result (λ answer. reply_at (opening self.old) (history self.new) answer.place ≡ Some answer.reply) }
-        ensures now { IfOk result (λ answer. answer.now ≡ now_at (opening self.old) (history self.new) answer.place) }
+        ensures reply { IfOk result (λ answer.
+            reply_at (opening self.old) (history self.new) answer.place ≡ Some answer.reply) }
+        ensures now { IfOk result (λ answer.
+            answer.now ≡ now_at (opening self.old) (history self.new) answer.place) }
         ensures fits { IfOk result (λ answer. IsTrue (fits step answer.reply)) }
         ensures refused { OnErr result (history self.new ≡ history self.old) }
         ensures opening { opening self.new ≡ opening self.old }
@@ -52,7 +57,8 @@ pub trait Node {
     ///
     /// On `NoMemory` nothing has changed.
     fn advance(&mut self, ms: u64) -> Result<(), NoMemory>
-        ensures marked { OnOk result (marks self.new ≡ marks self.old ++ record { place = length (history self.old); ms = ms } ∷ []) }
+        ensures marked { OnOk result (marks self.new
+            ≡ marks self.old ++ record { place = length (history self.old); ms = ms } ∷ []) }
         ensures refused { OnErr result (marks self.new ≡ marks self.old) }
         ensures history { history self.new ≡ history self.old }
         ensures opening { opening self.new ≡ opening self.old }
@@ -69,5 +75,6 @@ pub trait Node {
     ghost keeps_terms: { (n : Self) → KeepsTerms (terms n) (history n) (marks n) };
 
     /// Without a clock line, its readings are those of its clock, where the clock tells them.
-    ghost reads_right: { (n : Self) (f : ℕ → ℕ) → reads_by n f → (terms n).line ≡ None → AreReadings f (history n) (marks n) };
+    ghost reads_right: { (n : Self) (f : ℕ → ℕ) → reads_by n f → (terms n).line ≡ None
+        → AreReadings f (history n) (marks n) };
 }

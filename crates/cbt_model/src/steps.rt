@@ -14,7 +14,8 @@ pub enum Expect {
     Cas(u64),
 }
 
-/// One call of a node. It touches one document, one entry, one transaction record or the client record.
+/// One call of a node. It touches one document, one entry, one transaction record or the client
+/// record.
 #[derive(Drop)]
 pub enum Step {
     ReadDoc {

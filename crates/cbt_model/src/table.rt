@@ -20,7 +20,8 @@ use std::alloc::Global;
 /// On `NoMemory` nothing has changed.
 pub fn apply(alloc: Global, state: &mut State, reading: u64, step: &Step) -> Result<Reply, NoMemory>
     requires { state.old.last < 2 ^ 64 - 65537 }
-    ensures table { IfOk result (λ reply. (state.new, reply) ≡ apply_to state.old reading step.now) }
+    ensures table { IfOk result (λ reply.
+        (state.new, reply) ≡ apply_to state.old reading step.now) }
     ensures refused { OnErr result (state.new ≡ state.old) }
     ensures clock { state.new.last ≤ max (state.old.last + 1) (2 ^ 63) }
     ensures fits { HasFitBodies state.old → IfOk result (λ reply. IsTrue (fits step.now reply)) }
@@ -148,7 +149,9 @@ fn set_doc(
     set: DocState,
 ) -> Result<Reply, NoMemory>
     requires { state.old.last < 2 ^ 64 - 65537 }
-    ensures row { IfOk result (λ reply. (state.new, reply) ≡ made state.old reading (takes (clock_mutated state.old.last reading) (SetsDoc doc.now set))) }
+    ensures row { IfOk result (λ reply. (state.new, reply)
+        ≡ made state.old reading
+        (takes (clock_mutated state.old.last reading) (SetsDoc doc.now set))) }
     ensures refused { OnErr result (state.new ≡ state.old) }
     ensures clock { state.new.last ≤ max (state.old.last + 1) (2 ^ 63) }
 {
@@ -167,7 +170,9 @@ fn set_entry(
     entry: Entry,
 ) -> Result<Reply, NoMemory>
     requires { state.old.last < 2 ^ 64 - 65537 }
-    ensures row { IfOk result (λ reply. (state.new, reply) ≡ made state.old reading (takes (clock_mutated state.old.last reading) (SetsEntry key entry))) }
+    ensures row { IfOk result (λ reply. (state.new, reply)
+        ≡ made state.old reading
+        (takes (clock_mutated state.old.last reading) (SetsEntry key entry))) }
     ensures refused { OnErr result (state.new ≡ state.old) }
     ensures clock { state.new.last ≤ max (state.old.last + 1) (2 ^ 63) }
 {
@@ -180,7 +185,8 @@ fn set_entry(
 // Shows a document.
 fn read_doc(alloc: Global, state: &mut State, reading: u64, doc: &DocId) -> Result<Reply, NoMemory>
     requires { state.old.last < 2 ^ 64 - 65537 }
-    ensures row { IfOk result (λ reply. (state.new, reply) ≡ made state.old reading (read_doc_row (doc_at state.old doc.now))) }
+    ensures row { IfOk result (λ reply. (state.new, reply)
+        ≡ made state.old reading (read_doc_row (doc_at state.old doc.now))) }
     ensures refused { OnErr result (state.new ≡ state.old) }
     ensures clock { state.new.last ≤ max (state.old.last + 1) (2 ^ 63) }
 {
@@ -208,7 +214,10 @@ fn stage_new(
     stage: &Stage,
 ) -> Result<Reply, NoMemory>
     requires { state.old.last < 2 ^ 64 - 65537 }
-    ensures row { IfOk result (λ reply. (state.new, reply) ≡ made state.old reading (stage_row (clock_mutated state.old.last reading) doc.now Expect.New stage.now (doc_at state.old doc.now))) }
+    ensures row { IfOk result (λ reply. (state.new, reply)
+        ≡ made state.old reading
+        (stage_row (clock_mutated state.old.last reading)
+        doc.now Expect.New stage.now (doc_at state.old doc.now))) }
     ensures refused { OnErr result (state.new ≡ state.old) }
     ensures clock { state.new.last ≤ max (state.old.last + 1) (2 ^ 63) }
 {
@@ -234,24 +243,25 @@ fn stage_over(
     stage: &Stage,
 ) -> Result<Reply, NoMemory>
     requires { state.old.last < 2 ^ 64 - 65537 }
-    ensures row { IfOk result (λ reply. (state.new, reply) ≡ made state.old reading (stage_row (clock_mutated state.old.last reading) doc.now (Expect.Cas cas) stage.now (doc_at state.old doc.now))) }
+    ensures row { IfOk result (λ reply. (state.new, reply)
+        ≡ made state.old reading
+        (stage_row (clock_mutated state.old.last reading)
+        doc.now (Expect.Cas cas) stage.now (doc_at state.old doc.now))) }
     ensures refused { OnErr result (state.new ≡ state.old) }
     ensures clock { state.new.last ≤ max (state.old.last + 1) (2 ^ 63) }
 {
     let reply = match state.docs.get(doc) {
         None => Reply::Absent,
-        Some(there) => {
-            if there.cas == cas {
-                let set = DocState {
-                    cas: next_cas(state, reading),
-                    body: there.body.copy(alloc)?,
-                    attrs: there.attrs.copy(alloc)?,
-                    stage: Some(stage.copy(alloc)?),
-                };
-                return set_doc(alloc, state, reading, doc, set);
-            }
-            Reply::CasMismatch { have: there.cas }
+        Some(there) if there.cas == cas => {
+            let set = DocState {
+                cas: next_cas(state, reading),
+                body: there.body.copy(alloc)?,
+                attrs: there.attrs.copy(alloc)?,
+                stage: Some(stage.copy(alloc)?),
+            };
+            return set_doc(alloc, state, reading, doc, set);
         }
+        Some(there) => Reply::CasMismatch { have: there.cas },
     };
     Ok(refuse(state, reading, reply))
 }
@@ -266,7 +276,10 @@ fn publish(
     body: &Json,
 ) -> Result<Reply, NoMemory>
     requires { state.old.last < 2 ^ 64 - 65537 }
-    ensures row { IfOk result (λ reply. (state.new, reply) ≡ made state.old reading (publish_row (clock_mutated state.old.last reading) doc.now cas body.now (doc_at state.old doc.now))) }
+    ensures row { IfOk result (λ reply. (state.new, reply)
+        ≡ made state.old reading
+        (publish_row (clock_mutated state.old.last reading)
+        doc.now cas body.now (doc_at state.old doc.now))) }
     ensures refused { OnErr result (state.new ≡ state.old) }
     ensures clock { state.new.last ≤ max (state.old.last + 1) (2 ^ 63) }
 {
@@ -297,7 +310,10 @@ fn delete(
     cas: u64,
 ) -> Result<Reply, NoMemory>
     requires { state.old.last < 2 ^ 64 - 65537 }
-    ensures row { IfOk result (λ reply. (state.new, reply) ≡ made state.old reading (delete_row (clock_mutated state.old.last reading) doc.now cas (doc_at state.old doc.now))) }
+    ensures row { IfOk result (λ reply. (state.new, reply)
+        ≡ made state.old reading
+        (delete_row (clock_mutated state.old.last reading)
+        doc.now cas (doc_at state.old doc.now))) }
     ensures refused { OnErr result (state.new ≡ state.old) }
     ensures clock { state.new.last ≤ max (state.old.last + 1) (2 ^ 63) }
 {
@@ -328,7 +344,10 @@ fn unstick(
     cas: u64,
 ) -> Result<Reply, NoMemory>
     requires { state.old.last < 2 ^ 64 - 65537 }
-    ensures row { IfOk result (λ reply. (state.new, reply) ≡ made state.old reading (unstick_row (clock_mutated state.old.last reading) doc.now cas (doc_at state.old doc.now))) }
+    ensures row { IfOk result (λ reply. (state.new, reply)
+        ≡ made state.old reading
+        (unstick_row (clock_mutated state.old.last reading)
+        doc.now cas (doc_at state.old doc.now))) }
     ensures refused { OnErr result (state.new ≡ state.old) }
     ensures clock { state.new.last ≤ max (state.old.last + 1) (2 ^ 63) }
 {
@@ -358,7 +377,8 @@ fn read_entry(
     key: (u16, Id),
 ) -> Result<Reply, NoMemory>
     requires { state.old.last < 2 ^ 64 - 65537 }
-    ensures row { IfOk result (λ reply. (state.new, reply) ≡ made state.old reading (read_entry_row (entry_at state.old key))) }
+    ensures row { IfOk result (λ reply. (state.new, reply)
+        ≡ made state.old reading (read_entry_row (entry_at state.old key))) }
     ensures refused { OnErr result (state.new ≡ state.old) }
     ensures clock { state.new.last ≤ max (state.old.last + 1) (2 ^ 63) }
 {
@@ -378,7 +398,9 @@ fn add_entry(
     exp: u64,
 ) -> Result<Reply, NoMemory>
     requires { state.old.last < 2 ^ 64 - 65537 }
-    ensures row { IfOk result (λ reply. (state.new, reply) ≡ made state.old reading (add_entry_row (clock_mutated state.old.last reading) key exp (entry_at state.old key))) }
+    ensures row { IfOk result (λ reply. (state.new, reply)
+        ≡ made state.old reading
+        (add_entry_row (clock_mutated state.old.last reading) key exp (entry_at state.old key))) }
     ensures refused { OnErr result (state.new ≡ state.old) }
     ensures clock { state.new.last ≤ max (state.old.last + 1) (2 ^ 63) }
 {
@@ -408,7 +430,10 @@ fn decide(
     lists: &Lists,
 ) -> Result<Reply, NoMemory>
     requires { state.old.last < 2 ^ 64 - 65537 }
-    ensures row { IfOk result (λ reply. (state.new, reply) ≡ made state.old reading (decide_row (clock_mutated state.old.last reading) key decided lists.now (entry_at state.old key))) }
+    ensures row { IfOk result (λ reply. (state.new, reply)
+        ≡ made state.old reading
+        (decide_row (clock_mutated state.old.last reading)
+        key decided lists.now (entry_at state.old key))) }
     ensures refused { OnErr result (state.new ≡ state.old) }
     ensures clock { state.new.last ≤ max (state.old.last + 1) (2 ^ 63) }
 {
@@ -433,7 +458,10 @@ fn decide(
 // Removes an entry, if guarded only a pending one. It takes no memory.
 fn drop_entry(state: &mut State, reading: u64, key: (u16, Id), guarded: bool) -> Reply
     requires { state.old.last < 2 ^ 64 - 65537 }
-    ensures row { (state.new, result) ≡ made state.old reading (drop_entry_row (clock_mutated state.old.last reading) key guarded (entry_at state.old key)) }
+    ensures row { (state.new, result)
+        ≡ made state.old reading
+        (drop_entry_row (clock_mutated state.old.last reading)
+        key guarded (entry_at state.old key)) }
     ensures clock { state.new.last ≤ max (state.old.last + 1) (2 ^ 63) }
 {
     let reply = match state.entries.get(&key) {
@@ -454,7 +482,8 @@ fn drop_entry(state: &mut State, reading: u64, key: (u16, Id), guarded: bool) ->
 // Removes an entry.
 fn remove_entry(state: &mut State, reading: u64, key: (u16, Id)) -> Reply
     requires { state.old.last < 2 ^ 64 - 65537 }
-    ensures row { (state.new, result) ≡ made state.old reading (takes (clock_mutated state.old.last reading) (DropsEntry key)) }
+    ensures row { (state.new, result)
+        ≡ made state.old reading (takes (clock_mutated state.old.last reading) (DropsEntry key)) }
     ensures clock { state.new.last ≤ max (state.old.last + 1) (2 ^ 63) }
 {
     let cas = next_cas(state, reading);
@@ -466,7 +495,8 @@ fn remove_entry(state: &mut State, reading: u64, key: (u16, Id)) -> Reply
 // Shows the entries of a transaction record.
 fn read_atr(alloc: Global, state: &mut State, reading: u64, atr: u16) -> Result<Reply, NoMemory>
     requires { state.old.last < 2 ^ 64 - 65537 }
-    ensures row { IfOk result (λ reply. (state.new, reply) ≡ made state.old reading (refused (Reply.Entries (entries_of atr state.old.entries)))) }
+    ensures row { IfOk result (λ reply. (state.new, reply)
+        ≡ made state.old reading (refused (Reply.Entries (entries_of atr state.old.entries)))) }
     ensures refused { OnErr result (state.new ≡ state.old) }
     ensures clock { state.new.last ≤ max (state.old.last + 1) (2 ^ 63) }
 {
@@ -494,7 +524,8 @@ fn entries_of(
 // Shows the client record.
 fn read_clients(alloc: Global, state: &mut State, reading: u64) -> Result<Reply, NoMemory>
     requires { state.old.last < 2 ^ 64 - 65537 }
-    ensures row { IfOk result (λ reply. (state.new, reply) ≡ made state.old reading (refused (Reply.Clients state.old.clients))) }
+    ensures row { IfOk result (λ reply. (state.new, reply)
+        ≡ made state.old reading (refused (Reply.Clients state.old.clients))) }
     ensures refused { OnErr result (state.new ≡ state.old) }
     ensures clock { state.new.last ≤ max (state.old.last + 1) (2 ^ 63) }
 {
@@ -522,7 +553,10 @@ fn beat(
     gone: &[Id],
 ) -> Result<Reply, NoMemory>
     requires { state.old.last < 2 ^ 64 - 65537 }
-    ensures row { IfOk result (λ reply. (state.new, reply) ≡ made state.old reading (takes (clock_mutated state.old.last reading) (SetsClients (without_gone me gone.now (with_pair id_cmp state.old.clients me row))))) }
+    ensures row { IfOk result (λ reply. (state.new, reply)
+        ≡ made state.old reading
+        (takes (clock_mutated state.old.last reading) (SetsClients
+        (without_gone me gone.now (with_pair id_cmp state.old.clients me row))))) }
     ensures refused { OnErr result (state.new ≡ state.old) }
     ensures clock { state.new.last ≤ max (state.old.last + 1) (2 ^ 63) }
 {
