@@ -52,6 +52,7 @@ counted-next calls mid calls' h h' e number grown before is same own others a = 
   where
     grown-count : calls_below h' a (length h') ≡ calls_below h a (length h) + one_of a (Some e)
     grown-count = ap (λ x. calls_below x a (length x)) grown ∙ ap (λ n. calls_below (h ++ e ∷ []) a n) (length-next h e) ∙ calls_below-next h e a
+
     choice : (b : Bool) → nat_eq e.actor a ≡ b → count_of calls' a ≡ calls_below h' a (length h')
     choice true t =
         let here : e.actor ≡ a = eq-true e.actor a t in
@@ -124,7 +125,8 @@ reads-next due due' taken h h' marks e raw ahead f grown before first rest readi
   so_far = subst (λ x. AreReadings f x marks) (sym grown) (readings-next f h marks e before.so_far
       (reading ∙ held-sum raw (ahead_at marks (length h)) raw ahead small marked ∙ ap (λ n. held (n + ahead_at marks (length h))) (sym first)));
   next = λ r none. absurd (cc);
-  rest = subst due' (λ i. λ k. f (shift k i)) rest }
+  rest = subst due' (λ i. λ k. f (shift k i)) rest;
+}
   where
     shift : (k : ℕ) → length h + 1 + k ≡ length h' + 0 + k
     shift k = let e1 : length h' ≡ suc (length h) = ap (λ x. length x) grown ∙ length-next h e in omega arith
@@ -141,6 +143,7 @@ due-next due clock clock' None raw n f next rest again fresh =
   where
     zero-more : (n : ℕ) → n ≡ n + 0 + 0
     zero-more n = omega arith
+
     one-more : (n k : ℕ) → n + 0 + (k + 1) ≡ n + 1 + k
     one-more n k = omega arith
 due-next due clock clock' (Some r) raw n f next rest again fresh =

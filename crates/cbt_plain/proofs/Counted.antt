@@ -47,6 +47,7 @@ value-elsewhere (e ∷ es) k q w apart = step (is_eq (nat_cmp k e.0)) refl (valu
   where
     no-key : is_eq (nat_cmp k e.0) ≡ true → is_eq (nat_cmp q e.0) ≡ false
     no-key at = other-key q e.0 (λ same. apart (same ∙ sym (same-key k e.0 at)))
+
     step : (b : Bool) → is_eq (nat_cmp k e.0) ≡ b → at_key nat_cmp (set_value (is_at (nat_cmp k)) es w) q ≡ at_key nat_cmp es q
         → at_key nat_cmp (cond b ((e.0, w) ∷ es) (e ∷ set_value (is_at (nat_cmp k)) es w)) q ≡ at_key nat_cmp (e ∷ es) q
     step true at before =
@@ -74,6 +75,7 @@ calls_below-le h a (suc i) = let before = calls_below-le h a i in let one = one-
     choice : (b : Bool) → cond b 1 0 ≤ 1
     choice true = omega arith
     choice false = omega arith
+
     one-le : (a : ℕ) (o : Option Event) → one_of a o ≤ 1
     one-le a None = omega arith
     one-le a (Some e) = choice (nat_eq e.actor a)

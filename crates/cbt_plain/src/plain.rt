@@ -1,18 +1,16 @@
 ghost use Rattle.std.specs.Prelude.{◌≡◌, ℕ, ◌+◌, ◌-◌, ◌^◌, ◌≤◌, length};
-
 ghost use Rattle.cbt_base.specs.Clock.{held};
 ghost use Rattle.cbt_plain.specs.Counts.{count_of};
 ghost use Rattle.cbt_model.specs.Fitting.{HasFitBodies};
 ghost use Rattle.cbt_model.specs.History.{after};
 ghost use Rattle.cbt_model.specs.Legal.{KeepsTerms, ahead_at, calls_below};
 
-use cbt_base::{Clock, Duplicate, List, Map, NoMemory, ms};
-use cbt_model::{Answer, Event, Fate, Faults, Kept, Mark, Node, Reply, State, Step};
-use std::alloc::Global;
-
 use crate::counts::{next_number, set_number};
 use crate::outcomes::perform;
 use crate::readings::next_reading;
+use cbt_base::{Clock, Duplicate, List, Map, NoMemory, ms};
+use cbt_model::{Answer, Event, Fate, Faults, Kept, Mark, Node, Reply, State, Step};
+use std::alloc::Global;
 
 /// The most events that a history has.
 const MAX_EVENTS: u64 = 1 << 62;
@@ -51,7 +49,13 @@ impl<C: Clock> Plain<C> {
 
     /// A node that no call was made on yet, over an opening state, the calls that are to fail, the
     /// clock line of a script, and a clock that is read where there is no such line.
-    pub fn new(alloc: Global, opening: State, faults: Faults, line: Option<(u64, u64)>, clock: C) -> Result<Plain<C>, NoMemory>
+    pub fn new(
+        alloc: Global,
+        opening: State,
+        faults: Faults,
+        line: Option<(u64, u64)>,
+        clock: C,
+    ) -> Result<Plain<C>, NoMemory>
         requires last { opening.last ≤ clock_of (2 ^ 43 - 1) + 2 ^ 32 }
         requires bodies { HasFitBodies opening }
         requires attributes { HasFitAttributes opening }

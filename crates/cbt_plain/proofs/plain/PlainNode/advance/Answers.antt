@@ -18,4 +18,5 @@ returns-clause-readings g c f before none = let b = before none in record {
   so_far = subst (λ m. AreReadings f c.args.self.now.history m) (sym c.in_ok-push.ensures.ok)
       (readings-marked f c.args.self.now.history c.args.self.now.marks (record { place = c.len-place.result; ms = c.args.ms }) b.so_far c.len-place.ensures);
   next = b.next;
-  rest = b.rest }
+  rest = b.rest;
+}

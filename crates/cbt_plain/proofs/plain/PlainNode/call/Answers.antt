@@ -48,7 +48,8 @@ invariant_of-self-in-Ok g c =
           (λ line is. c.saturating_add.ensures
           ∙ held-sum (line_due line (length s.history)) (ahead_at s.marks (length s.history)) c.next_reading-reading.result s.ahead
           (c.next_reading-reading.ensures.line line is ∙ ap (λ n. held (line_due line n)) c.len-place.ensures) ahead);
-      marked = λ i low. s.marked i (omega arith) }
+      marked = λ i low. s.marked i (omega arith);
+    }
 
 pub returns-in-Ok-clause-reply : goal.returns-in-Ok-clause-reply
 returns-in-Ok-clause-reply g c =
@@ -83,6 +84,6 @@ returns-in-Ok-clause-readings g c f before none =
     let e : Event = record { actor = c.args.actor; step = c.args.step; fate = c.unwrap_or-fate.result; reading = c.saturating_add.result } in
     let ahead : s.ahead ≡ held (ahead_at s.marks (length s.history)) = s.marked (length s.history) (omega arith) in
     let due = due-next g.C.Clock.due s.clock c.next_reading-reading.new.clock s.taken c.next_reading-reading.result (length s.history) f b.next b.rest
-        (λ r is. c.next_reading-reading.ensures.again r none is) (λ is. c.next_reading-reading.ensures.fresh none is) in
+    (λ r is. c.next_reading-reading.ensures.again r none is) (λ is. c.next_reading-reading.ensures.fresh none is) in
     reads-next (g.C.Clock.due s.clock) (g.C.Clock.due c.next_reading-reading.new.clock) s.taken s.history c.push.new.self s.marks e c.next_reading-reading.result s.ahead f
-        c.in_ok-push.ensures.ok b due.0 due.1 c.saturating_add.ensures ahead (let small = c.next_reading-reading.type_inv in omega arith)
+    c.in_ok-push.ensures.ok b due.0 due.1 c.saturating_add.ensures ahead (let small = c.next_reading-reading.type_inv in omega arith)

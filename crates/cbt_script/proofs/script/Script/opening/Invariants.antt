@@ -6,4 +6,5 @@ use Rattle.cbt_script.proofs.script.Script.opening.Given as goal
 abbrev pub invariant-loop-id : goal.invariant-loop-id
 invariant-loop-id l = record {
   counted : l.cas ≡ l.id-index;
-  whole : docs_from (l.cas + 1) (drop l.id-index l.id-items) l.docs ≡ docs_from 1 l.id-items [] }
+  whole : docs_from (l.cas + 1) (drop l.id-index l.id-items) l.docs ≡ docs_from 1 l.id-items [];
+}
