@@ -28,3 +28,6 @@ pub use sink::{MemSink, Sink, StdSink, WriteFailed};
 pub use source::{MemSource, ReadFailed, Source, StdSource};
 pub use streams::{ReadFault, read_all, rose_is_larger_or_at_the_end, write_all};
 pub use text::Text;
+
+#[cfg(test)]
+mod tests;
