@@ -8,3 +8,6 @@ mod readings;
 
 pub use outcomes::perform;
 pub use plain::Plain;
+
+#[cfg(test)]
+mod tests;
