@@ -1,10 +1,13 @@
-//! Runs of the typed node: fates, readings and marks.
+//! Runs of the typed node: fates, readings and marks, and many calls.
 
 ghost use Rattle.std.specs.Prelude.{◌≤◌};
 
 use crate::Plain;
-use cbt_base::{Clock, Id, Map, NoMemory, StepClock};
-use cbt_model::{Answer, Fate, Fault, Faults, Node, Reply, State, Step, step_fits};
+use cbt_base::{Clock, DocId, Id, List, ListClock, Map, NoMemory, StepClock};
+use cbt_json::Json;
+use cbt_model::{
+    Answer, Expect, Fate, Fault, Faults, Node, OpKind, Reply, Stage, State, Step, step_fits,
+};
 use std::alloc::Global;
 use std::process::Abort;
 use std::test::Fail;
@@ -107,5 +110,67 @@ fn lost_late_and_marks(rt: HostRuntime) -> Result<(), Fail> {
         assert_eq!(rt; (mark.place, mark.ms), (5, 5000));
     }
     assert!(rt; kept.opening.entries.is_empty());
+    Ok(())
+}
+
+// A staging of a new document, with the empty object as its content.
+fn stage_new(alloc: Global, doc: DocId) -> Step {
+    Step::Stage {
+        doc,
+        expect: Expect::New,
+        stage: Stage {
+            attempt: attempt(1),
+            atr: 12,
+            kind: OpKind::Insert,
+            content: Some(Json::empty_object(alloc)),
+        },
+    }
+}
+
+// Each call looks for its fault and its actor's count: the time of all of them stays in proportion
+// to their number, or this test does not end in time.
+#[test]
+fn twenty_thousand_calls(rt: HostRuntime) -> Result<(), Fail> {
+    let alloc = rt.alloc();
+    let mut faults = Faults::new(alloc);
+    for call in 1..=20_000 {
+        faults.add(Fault {
+            actor: 2,
+            call,
+            fate: Fate::Lost,
+        })?;
+    }
+    let clock = StepClock { next: 0, step: 1 };
+    let mut node = empty_node(alloc, faults, None, clock)?;
+    let mut last_place = 0;
+    for k in 0..20_000u64 {
+        let doc = DocId::new(alloc, format!(in alloc; "doc{k}")?.as_str())?;
+        let answer = call(&rt, &mut node, 1, stage_new(alloc, doc))?;
+        assert!(rt; matches!(answer.reply, Reply::Done { .. }), "at {k}");
+        last_place = answer.place;
+    }
+    assert_eq!(rt; last_place, 19_999);
+    assert_eq!(rt; node.state().docs.len(), 20_000);
+    assert_eq!(rt; node.finish().history.len(), 20_000);
+    Ok(())
+}
+
+#[test]
+fn readings_of_a_clock(rt: HostRuntime) -> Result<(), Fail> {
+    let alloc = rt.alloc();
+    let clock = ListClock {
+        readings: List::from_vec(vec![in alloc; 5, 7]?),
+        at: 0,
+    };
+    let mut node = empty_node(alloc, Faults::new(alloc), None, clock)?;
+    for _ in 0..3 {
+        call(&rt, &mut node, 1, read_entry(attempt(1)))?;
+    }
+    let kept = node.finish();
+    let want = [5, 7, 7];
+    assert_eq!(rt; kept.history.len(), want.len());
+    for (event, reading) in kept.history.iter().zip(want) {
+        assert_eq!(rt; event.reading, reading);
+    }
     Ok(())
 }
