@@ -1,7 +1,10 @@
 //! The program as one call over any source, sink and clock.
 
-ghost use Rattle.std.specs.Prelude.{◌≡◌, false};
-ghost use Rattle.cbtx.specs.Statuses.{IsWritten};
+ghost use Rattle.std.specs.Prelude.{◌≡◌, ◌<◌, false, true};
+ghost use Rattle.std.specs.Io.KnownBytes.{Appends, Keeps};
+ghost use Rattle.cbt_base.specs.Causes.{Rose};
+ghost use Rattle.cbt_base.specs.Streams.{WrotePart};
+ghost use Rattle.cbtx.specs.Statuses.{IsWritten, IsNotBuilt, IsReported, IsCut, refused_line, usage_line};
 ghost use Rattle.cbtx.specs.Words.{is_sim};
 
 use crate::form::{FormFault, first_form};
@@ -55,8 +58,20 @@ pub fn still<S: Source, K: Sink, C: Clock>(
     out: &mut K,
     clock: C,
 ) -> Ran
-    // Other words are usage, unless the usage line was not written.
+    // Exactly where the words are not the one word `sim` the usage line is written, unless the sink fails.
     ensures usage { is_sim words.now ≡ false → IsWritten result.status 2 }
+    ensures usage_line { result.status ≡ 2 → (is_sim words.now ≡ false) × Appends (K.taken out.old) (K.taken out.new) usage_line }
+
+    // At status 0 the input was a script, and the report on the book of its run was written whole.
+    ensures reported { result.status ≡ 0 → IsReported (S.left src.old) (S.left src.new) (K.taken out.old) (K.taken out.new) result.script result.book }
+
+    // At status 1 the input was none, and the refusal was written.
+    ensures not_built { result.status ≡ 1 → IsNotBuilt (S.left src.old) (S.left src.new) × Appends (K.taken out.old) (K.taken out.new) refused_line }
+
+    // The source's faults give status 3, with nothing written, and the sink's status 4.
+    ensures read_failed { result.status ≡ 3 → Rose (S.faults src.old) (S.faults src.new) × Keeps (K.taken out.old) (K.taken out.new) }
+    ensures write_failed { result.status ≡ 4 → IsCut (K.taken out.old) (K.taken out.new) (K.faults out.old) (K.faults out.new) }
+    ensures statuses { result.status < 6 }
 {
     if is_sim(words) {
         sim(alloc, src, out, clock)
@@ -66,7 +81,14 @@ pub fn still<S: Source, K: Sink, C: Clock>(
 }
 
 // Runs the script that the source gives.
-fn sim<S: Source, K: Sink, C: Clock>(alloc: Global, src: &mut S, out: &mut K, clock: C) -> Ran {
+fn sim<S: Source, K: Sink, C: Clock>(alloc: Global, src: &mut S, out: &mut K, clock: C) -> Ran
+    ensures no_usage { result.status ≡ 2 → ⊥ }
+    ensures reported { result.status ≡ 0 → IsReported (S.left src.old) (S.left src.new) (K.taken out.old) (K.taken out.new) result.script result.book }
+    ensures not_built { result.status ≡ 1 → IsNotBuilt (S.left src.old) (S.left src.new) × Appends (K.taken out.old) (K.taken out.new) refused_line }
+    ensures read_failed { result.status ≡ 3 → Rose (S.faults src.old) (S.faults src.new) × Keeps (K.taken out.old) (K.taken out.new) }
+    ensures write_failed { result.status ≡ 4 → IsCut (K.taken out.old) (K.taken out.new) (K.faults out.old) (K.faults out.new) }
+    ensures statuses { result.status < 6 }
+{
     let bytes = match read_all(alloc, src, MAX_INPUT) {
         Ok(bytes) => bytes,
         Err(ReadFault::NoMemory) => return Ran::ended(5),
@@ -81,20 +103,26 @@ fn sim<S: Source, K: Sink, C: Clock>(alloc: Global, src: &mut S, out: &mut K, cl
     let Ok(book) = simulate(alloc, &script, clock) else {
         return Ran::ended(5);
     };
-    let status = match report_of(alloc, &script, &book) {
-        Ok(report) => written(out, report.as_str(), 0),
-        Err(_) => 5,
-    };
-    Ran {
-        status,
-        book: Some(book),
-        script: Some(script),
+    match report_of(alloc, &script, &book) {
+        Ok(report) => Ran {
+            status: written(out, report.as_str(), 0),
+            book: Some(book),
+            script: Some(script),
+        },
+        Err(_) => Ran {
+            status: 5,
+            book: Some(book),
+            script: Some(script),
+        },
     }
 }
 
 // Writes a text: the status is the one named, or 4 where the sink failed.
 fn written<K: Sink>(out: &mut K, text: &str, status: u8) -> u8
-    ensures { IsWritten result status }
+    requires { status < 4 }
+    ensures status { IsWritten result status }
+    ensures whole { result ≡ status → Appends (K.taken out.old) (K.taken out.new) text.now }
+    ensures cut { result ≡ 4 → IsCut (K.taken out.old) (K.taken out.new) (K.faults out.old) (K.faults out.new) }
 {
     match write_all(out, text.as_bytes()) {
         Ok(()) => status,
