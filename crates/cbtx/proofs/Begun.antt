@@ -1,25 +1,22 @@
 -- What the opening of a script of the first form is.
-use Rattle.std.proofs.Common.{◌≡◌, ℕ, Bool, true, false, cond, ◌&&◌, arith, length, List, [], ◌∷◌, Option, Some, None, refl, sym, ap, ◌∙◌, subst}
+use Rattle.std.proofs.Common.{◌≡◌, ℕ, Bool, true, false, cond, ◌&&◌, arith, length, List, [], ◌∷◌, Some, None, sym, ap, ◌∙◌, subst}
 use Rattle.std.specs.Ordering.{is_eq}
 use Rattle.serde_json.specs.Data.{depth}
 use Rattle.serde_json.specs.Written.{compact_text}
 use Rattle.cbt_json.proofs.Views.{data_of-Object}
 use Rattle.cbt_json.specs.Rules.{BodyFits}
 use Rattle.cbt_json.specs.Trees.{levels, text_of}
-use Rattle.cbt_json.specs.declared.tree.Tree.{Tree}
 use Rattle.cbt_json.specs.declared.tree.Tree.TheVariants as tree
 use Rattle.cbt_model.specs.Bodies.{body_fits_of}
 use Rattle.cbt_model.specs.Fitting.{HasFitBodies, HasFitAttributes, doc_fits}
-use Rattle.cbt_model.specs.Keys.{doc_cmp, doc_at}
+use Rattle.cbt_model.specs.Keys.{doc_cmp}
 use Rattle.cbt_model.specs.declared.documents.DocState.{DocState}
-use Rattle.cbt_model.specs.declared.events.Event.{Event}
 use Rattle.cbt_model.specs.declared.states.State.{State}
 use Rattle.cbt_model.proofs.FitBodies.{body_fits_of-fits}
 use Rattle.cbt_script.specs.Opening.{opening_of, first_state}
 use Rattle.cbt_script.specs.declared.script.Script.{Script}
-use Rattle.cbtx.specs.FirstForm.{Fields, IsOneReplace, script_with}
-use Rattle.cbtx.specs.Path.{Task, opened, now_of}
-use Rattle.cbtx.specs.Replacing.{task_of, Begins, Does}
+use Rattle.cbtx.specs.FirstForm.{IsOneReplace}
+use Rattle.cbtx.specs.Replacing.{Begins, Does}
 use Rattle.cbtx.specs.declared.replacement.Replacement.{Replacement}
 
 -- what is found in a map of one key is its value
@@ -56,12 +53,12 @@ pub new-fits : (script : Script) (r : Replacement) → (it : IsOneReplace script
 new-fits script r it does = subst (λ x. BodyFits x) (sym does.body) it.new_body
 
 -- it begins at the opening
-pub begun : (script : Script) (r : Replacement) (s0 : State) (h : List Event) → (it : IsOneReplace script) → Does r it.fields it.new
-    → s0 ≡ opening_of script.docs → h ≡ [] → Begins r (now_of s0 h)
-begun script r s0 h it does is none = record {
+abbrev pub begun : (script : Script) (r : Replacement) (s0 : State) → (it : IsOneReplace script) → Does r it.fields it.new
+    → s0 ≡ opening_of script.docs → Begins r s0
+begun script r s0 it does is = record {
   old = it.old;
   attrs = tree.Object [];
   last = 1;
   cas = 1;
-  is = ap (λ x. now_of s0 x) none ∙ is ∙ opening-is script it ∙ ap (λ id. opening_of ((id, it.old, tree.Object []) ∷ [])) (sym does.doc);
+  is = is ∙ opening-is script it ∙ ap (λ id. opening_of ((id, it.old, tree.Object []) ∷ [])) (sym does.doc);
 }

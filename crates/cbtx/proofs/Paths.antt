@@ -1,5 +1,5 @@
 -- That each step of the path is taken where it stands, and leads to the next state.
-use Rattle.std.proofs.Common.{◌≡◌, ℕ, ◌+◌, Bool, true, false, cond, nat_eq, if◌then◌else◌, List, [], ◌∷◌, ◌++◌, length, Option, Some, None, refl, sym, ap, ◌∙◌, subst, arith}
+use Rattle.std.proofs.Common.{◌≡◌, ℕ, true, false, cond, nat_eq, if◌then◌else◌, [], ◌∷◌, Option, Some, None, refl, ap, ◌∙◌, arith}
 use Rattle.std.proofs.lemmas.Cmp.{tied_itself}
 use Rattle.std.proofs.lemmas.Grind.{common_steps}
 use Rattle.std.specs.declared.cmp.Ordering.{Ordering}
@@ -18,11 +18,10 @@ use Rattle.cbt_model.specs.declared.documents.DocState.{DocState}
 use Rattle.cbt_model.specs.declared.documents.Stage.{Stage}
 use Rattle.cbt_model.specs.declared.entries.Entry.{Entry}
 use Rattle.cbt_model.specs.declared.states.State.{State}
-use Rattle.cbt_model.specs.declared.steps.Reply.{Reply}
 use Rattle.cbt_model.specs.declared.steps.Reply.TheVariants as reply
 use Rattle.cbt_model.specs.declared.steps.Expect.TheVariants as expect
 use Rattle.cbt_model.proofs.Orders.{IsKeyOrder, doc_order, entry_order}
-use Rattle.cbtx.specs.Path.{Task, attempt_of, atr_of, staging_of, lists_of, read_step, entry_step, stage_step, commit_step, publish_step, drop_step, opened, entered, staged, committed, published, dropped, Takes}
+use Rattle.cbtx.specs.Path.{Task, attempt_of, atr_of, staging_of, lists_of, read_step, entry_step, stage_step, commit_step, publish_step, drop_step, opened, entered, staged, committed, published, dropped}
 
 module _ {K V : Type 0} (cmp : K → K → Ordering) (order : IsKeyOrder cmp) (k : K) (v w : V) where
   itself : cmp k k ≡ Equal

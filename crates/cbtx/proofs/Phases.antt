@@ -1,14 +1,13 @@
 -- Where the path of a replacement stands after each of its calls.
-use Rattle.std.proofs.Common.{◌≡◌, ℕ, List, Some, None, refl, sym, ap, ◌∙◌, subst}
+use Rattle.std.proofs.Common.{◌≡◌, ℕ, List, Some, None, sym, ap, ◌∙◌}
 use Rattle.cbt_base.specs.Clock.{clock_read, clock_mutated}
-use Rattle.cbt_json.specs.declared.tree.Tree.{Tree}
 use Rattle.cbt_model.specs.Table.{row}
 use Rattle.cbt_model.specs.declared.events.Event.{Event}
 use Rattle.cbt_model.specs.declared.states.State.{State}
 use Rattle.cbt_model.specs.declared.steps.Step.{Step}
-use Rattle.cbtx.specs.Path.{Task, read_step, entry_step, stage_step, commit_step, publish_step, drop_step, opened, entered, staged, committed, published, dropped, now_of, Takes, Called, Changed}
+use Rattle.cbtx.specs.Path.{Task, read_step, entry_step, stage_step, commit_step, publish_step, drop_step, opened, entered, staged, committed, published, now_of, Takes, Called, Changed}
 use Rattle.cbtx.specs.Replacing.{Reads}
-use Rattle.cbtx.proofs.Paths.{stepped, row-read, state-read, row-entry, state-entry, row-stage, state-stage, row-commit, state-commit, row-publish, state-publish, row-drop, state-drop}
+use Rattle.cbtx.proofs.Paths.{stepped, row-read, state-read, row-entry, state-entry, row-stage, state-stage, row-commit, state-commit, row-publish, state-publish, row-drop}
 
 -- a state is the one that a phase has at some clock
 pub record IsAt (phase : ℕ → State) (s : State) : Type 0 where

@@ -1,13 +1,11 @@
 -- What a node's contract tells of one call where no call is to fail.
-use Rattle.std.proofs.Common.{◌≡◌, ℕ, ◌+◌, List, [], ◌∷◌, ◌++◌, length, Option, Some, None, unwrap_or, refl, sym, ap, ◌∙◌}
+use Rattle.std.proofs.Common.{◌≡◌, ℕ, List, [], ◌∷◌, ◌++◌, length, Some, unwrap_or, sym, ap, ◌∙◌}
 use Rattle.cbt_base.specs.Clock.{clock_mutated}
 use Rattle.cbt_base.specs.Keyed.{at_key}
-use Rattle.cbt_json.specs.declared.tree.Tree.{Tree}
 use Rattle.cbt_model.specs.Faults.{call_cmp, fate_of}
-use Rattle.cbt_model.specs.History.{after, reply_at}
+use Rattle.cbt_model.specs.History.{reply_at}
 use Rattle.cbt_model.specs.Legal.{AddsOne}
-use Rattle.cbt_model.specs.Table.{row, changed, refused}
-use Rattle.cbt_model.specs.declared.documents.Stage.{Stage}
+use Rattle.cbt_model.specs.Table.{row, changed}
 use Rattle.cbt_model.specs.declared.events.Event.{Event}
 use Rattle.cbt_model.specs.declared.events.Fate.{Fate}
 use Rattle.cbt_model.specs.declared.events.Fate.TheVariants.{Plain}

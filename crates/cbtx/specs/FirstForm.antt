@@ -1,9 +1,8 @@
 -- The first form of a script: six lines, of one document and one client that replaces it.
-use Rattle.std.specs.Prelude.{◌≡◌, ℕ, ◌-◌, ◌^◌, Bool, true, false, ◌&&◌, ◌==◌, not, if◌then◌else◌, List, [], ◌∷◌, length, Option, Some, None, Ok, codes, bytes_eq}
+use Rattle.std.specs.Prelude.{◌≡◌, ℕ, ◌-◌, ◌^◌, true, ◌&&◌, ◌==◌, not, if◌then◌else◌, List, [], ◌∷◌, length, Option, Some, None, Ok, codes, bytes_eq}
 use Rattle.std.specs.Str.{IsUtf8}
 use Rattle.std.specs.Option.{option_map}
 use Rattle.cbt_base.specs.Ids.{IsDocId}
-use Rattle.cbt_expr.specs.declared.plans.ClientPlan.{ClientPlan}
 use Rattle.cbt_expr.specs.declared.plans.TxnPlan.{TxnPlan}
 use Rattle.cbt_expr.specs.declared.plans.Op.TheVariants as op
 use Rattle.cbt_json.specs.Reading.{json_of}

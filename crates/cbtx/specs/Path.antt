@@ -1,6 +1,6 @@
 -- The path of a transaction that replaces one document: its six steps, and the node's states between them.
 use Rattle.std.specs.Prelude.{◌≡◌, ℕ, ◌%◌, ◌++◌, false, List, [], ◌∷◌, length, Option, Some, None}
-use Rattle.cbt_base.specs.Clock.{clock_read, clock_mutated}
+use Rattle.cbt_base.specs.Clock.{clock_mutated}
 use Rattle.cbt_base.specs.Ids.{attempt_number, fnv_1a}
 use Rattle.cbt_json.specs.declared.tree.Tree.{Tree}
 use Rattle.cbt_model.specs.History.{after}
@@ -17,7 +17,6 @@ use Rattle.cbt_model.specs.declared.events.Event.{Event}
 use Rattle.cbt_model.specs.declared.events.Fate.TheVariants.{Plain}
 use Rattle.cbt_model.specs.declared.states.State.{State}
 use Rattle.cbt_model.specs.declared.steps.Expect.TheVariants as expect
-use Rattle.cbt_model.specs.declared.steps.Reply.{Reply}
 use Rattle.cbt_model.specs.declared.steps.Reply.TheVariants as reply
 use Rattle.cbt_model.specs.declared.steps.Step.{Step}
 use Rattle.cbt_model.specs.declared.steps.Step.TheVariants as step
@@ -125,3 +124,26 @@ pub record Changed (s0 : State) (old new : List Event) (actor : ℕ) (step : Ste
 -- the table takes the step at this state
 abbrev pub Takes : State → Step → Type 0
 Takes s step = (c : ℕ) → (row s c step).reply ≡ reply.Done c
+
+-- the six events of a replacement over a document with the stamp cas; its staging gave it the stamp next
+abbrev pub path : Task → ℕ → ℕ → ℕ → ℕ → ℕ → ℕ → ℕ → ℕ → List Event
+path t cas next r0 r1 r2 r3 r4 r5 =
+    plain_event t.actor (read_step t) r0
+    ∷ plain_event t.actor (entry_step t) r1
+    ∷ plain_event t.actor (stage_step t cas) r2
+    ∷ plain_event t.actor (commit_step t) r3
+    ∷ plain_event t.actor (publish_step t next) r4
+    ∷ plain_event t.actor (drop_step t) r5
+    ∷ []
+
+-- the history is that of a replacement, at these readings
+pub record IsPath (t : Task) (s0 : State) (cas : ℕ) (h : List Event) : Type 0 where
+  pub next : ℕ
+  pub r0 : ℕ
+  pub r1 : ℕ
+  pub r2 : ℕ
+  pub r3 : ℕ
+  pub r4 : ℕ
+  pub r5 : ℕ
+  pub is : h ≡ path t cas next r0 r1 r2 r3 r4 r5
+  pub stamp : next ≡ clock_mutated (after s0 (path t cas next r0 r1 r2 r3 r4 r5) 2).last r2

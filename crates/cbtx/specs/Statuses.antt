@@ -1,11 +1,10 @@
 -- How a run ends, by its status.
-use Rattle.std.specs.Prelude.{◌≡◌, ℕ, ◌++◌, ◌⊎◌, List, Option, Some, codes}
-use Rattle.std.specs.Io.KnownBytes.{Appends, Keeps}
+use Rattle.std.specs.Prelude.{◌≡◌, ℕ, Bool, true, false, ◌⊎◌, List, Option, Some, codes}
+use Rattle.std.specs.Io.KnownBytes.{Appends}
 use Rattle.cbt_base.specs.Causes.{Rose}
 use Rattle.cbt_base.specs.Streams.{ReadWhole, ReadPast, WrotePart}
 use Rattle.cbt_book.specs.declared.book.Book.{Book}
 use Rattle.cbt_report.specs.Report.{report_text}
-use Rattle.cbt_script.specs.Opening.{opening_of}
 use Rattle.cbt_script.specs.declared.script.Script.{Script}
 use Rattle.cbtx.specs.FirstForm.{IsFirstForm}
 
@@ -29,20 +28,27 @@ IsWritten status whole = (status ≡ whole) ⊎ (status ≡ 4)
 abbrev pub IsNotBuilt : Option (List ℕ) → Option (List ℕ) → Type 0
 IsNotBuilt left left' = ((input : List ℕ) × ReadWhole left left' input × ((script : Script) → IsFirstForm input script → ⊥)) ⊎ ReadPast left left' max_input
 
--- the input is this script, and this book's report on it was written
-pub record IsReported (left left' taken taken' : Option (List ℕ)) (script : Option Script) (book : Option Book) : Type 0 where
+-- the bytes that were read are this script
+pub record IsScriptRead (left left' : Option (List ℕ)) (script : Script) : Type 0 where
   pub input : List ℕ
+  pub read : ReadWhole left left' input
+  pub form : IsFirstForm input script
+
+-- the script ran, and the report on its book was written
+pub record IsReported (taken taken' : Option (List ℕ)) (script : Option Script) (book : Option Book) : Type 0 where
   pub the_script : Script
   pub the_book : Book
-  pub read : ReadWhole left left' input
-  pub form : IsFirstForm input the_script
   pub script_is : script ≡ Some the_script
   pub book_is : book ≡ Some the_book
-  pub opening : the_book.kept.opening ≡ opening_of the_script.docs
   pub written : Appends taken taken' (report_text the_script the_book)
 
--- the sink failed, and a front of some text was written
-pub record IsCut (taken taken' : Option (List ℕ)) (faults faults' : ℕ) : Type 0 where
-  pub text : List ℕ
+-- the text that is due: the report where a script ran, and else the line on an input that is none, or on words that are no command
+abbrev pub text_due : Bool → Option Script → Option Book → List ℕ
+text_due false script book = usage_line
+text_due true (Some script) (Some book) = report_text script book
+text_due true _ _ = refused_line
+
+-- the sink failed, and a front of the text was written
+pub record IsCut (taken taken' : Option (List ℕ)) (faults faults' : ℕ) (text : List ℕ) : Type 0 where
   pub part : WrotePart taken taken' text
   pub rose : Rose faults faults'

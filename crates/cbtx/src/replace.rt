@@ -1,10 +1,12 @@
 //! A transaction that replaces one document's body: its six calls, and its log.
 
-ghost use Rattle.std.specs.Prelude.{◌≡◌, ◌≤◌, ◌<◌, ◌^◌, IsTrue, IfOk};
+ghost use Rattle.std.specs.Prelude.{◌≡◌, ◌≤◌, ◌<◌, ◌+◌, ◌^◌, [], IsTrue, IfOk};
 ghost use Rattle.cbt_json.specs.Rules.{BodyFits};
 ghost use Rattle.cbt_model.specs.Fitting.{step_fits};
-ghost use Rattle.cbtx.specs.Path.{now_of, NoFaults, Takes, Called, Changed};
-ghost use Rattle.cbtx.specs.Replacing.{Begins, Reads};
+ghost use Rattle.cbt_model.specs.Legal.{KeepsTerms};
+ghost use Rattle.cbtx.specs.Logs.{log_with};
+ghost use Rattle.cbtx.specs.Path.{attempt_of, now_of, IsPath, NoFaults, Takes, Called, Changed};
+ghost use Rattle.cbtx.specs.Replacing.{bare_task, task_of, Begins, Reads};
 
 use crate::lists::only;
 use crate::replacement::Replacement;
@@ -29,8 +31,13 @@ pub fn replace_once<N: Node>(
 ) -> Result<ClientLog, NoMemory>
     requires faults { NoFaults (N.terms node.old) }
     requires fits { BodyFits it.body.now }
-    requires begins { Begins it (now_of (N.opening node.old) (N.history node.old)) }
+    requires begins { Begins it (N.opening node.old) }
+    requires fresh { N.history node.old ≡ [] }
+    ensures path { (b : Begins it.entry (N.opening node.old)) → IfOk result (λ log. IsPath (task_of it.entry b.old b.attrs) (N.opening node.old) b.cas (N.history node.new)) }
+    ensures log { IfOk result (λ log. log ≡ log_with (attempt_of (bare_task it.entry)) 0 2 3 5) }
+    ensures keeps { KeepsTerms (N.terms node.new) (N.history node.new) (N.marks node.new) }
     ensures opening { N.opening node.new ≡ N.opening node.old }
+    ensures terms { N.terms node.new ≡ N.terms node.old }
     ensures marks { N.marks node.new ≡ N.marks node.old }
 {
     let read = read(node, it.actor, it.read_step(alloc)?)?;
@@ -102,6 +109,7 @@ fn log(
     dropped: u64,
 ) -> Result<ClientLog, NoMemory>
     requires { (staged < 2 ^ 62) × (dropped < 2 ^ 62) }
+    ensures { IfOk result (λ log. log ≡ log_with attempt read staged committed dropped) }
 {
     let op = OpLog {
         op: 1,

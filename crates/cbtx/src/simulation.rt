@@ -1,8 +1,8 @@
 //! A script's run, one call after another.
 
 ghost use Rattle.std.specs.Prelude.{◌≡◌, IfOk};
-ghost use Rattle.cbt_script.specs.Opening.{opening_of};
 ghost use Rattle.cbtx.specs.FirstForm.{IsOneReplace};
+ghost use Rattle.cbtx.specs.Headline.{IsRunOf};
 ghost use Rattle.cbtx.specs.Replacing.{Does};
 
 use crate::lists::only;
@@ -22,7 +22,7 @@ const FIRST_ACTOR: u32 = 1;
 /// Lets a script of the first form run on the typed node, and answers what the run leaves.
 pub fn simulate<C: Clock>(alloc: Global, script: &Script, clock: C) -> Result<Book, NoMemory>
     requires { IsOneReplace script.now }
-    ensures { IfOk result (λ book. book.kept.opening ≡ opening_of script.now.docs) }
+    ensures { IfOk result (λ book. IsRunOf script.now book) }
 {
     let opening = script.opening(alloc)?;
     let faults = script.faults.copy(alloc)?;

@@ -1,10 +1,11 @@
 //! The program as one call over any source, sink and clock.
 
-ghost use Rattle.std.specs.Prelude.{◌≡◌, ◌<◌, false, true};
+ghost use Rattle.std.specs.Prelude.{◌≡◌, ◌<◌, false, true, None, is_some};
 ghost use Rattle.std.specs.Io.KnownBytes.{Appends, Keeps};
 ghost use Rattle.cbt_base.specs.Causes.{Rose};
-ghost use Rattle.cbt_base.specs.Streams.{WrotePart};
-ghost use Rattle.cbtx.specs.Statuses.{IsWritten, IsNotBuilt, IsReported, IsCut, refused_line, usage_line};
+ghost use Rattle.cbt_script.specs.Opening.{opening_of};
+ghost use Rattle.cbtx.specs.Headline.{IsInTurn, IsLegalFor, IsRunOf, HasCommitted, NeverBoth, ShowsTable, WhereRan};
+ghost use Rattle.cbtx.specs.Statuses.{IsCut, IsNotBuilt, IsReported, IsScriptRead, IsWritten, refused_line, text_due, usage_line};
 ghost use Rattle.cbtx.specs.Words.{is_sim};
 
 use crate::form::{FormFault, first_form};
@@ -39,7 +40,9 @@ pub struct Ran {
 impl Ran {
     // A run that left nothing.
     fn ended(status: u8) -> Ran
-        ensures { result.status ≡ status }
+        ensures status { result.status ≡ status }
+        ensures book { result.book ≡ None }
+        ensures script { result.script ≡ None }
     {
         Ran {
             status,
@@ -62,16 +65,35 @@ pub fn still<S: Source, K: Sink, C: Clock>(
     ensures usage { is_sim words.now ≡ false → IsWritten result.status 2 }
     ensures usage_line { result.status ≡ 2 → (is_sim words.now ≡ false) × Appends (K.taken out.old) (K.taken out.new) usage_line }
 
-    // At status 0 the input was a script, and the report on the book of its run was written whole.
-    ensures reported { result.status ≡ 0 → IsReported (S.left src.old) (S.left src.new) (K.taken out.old) (K.taken out.new) result.script result.book }
+    // At status 0 a script ran, and the report on the book of its run was written whole.
+    ensures reported { result.status ≡ 0 → IsReported (K.taken out.old) (K.taken out.new) result.script result.book }
 
     // At status 1 the input was none, and the refusal was written.
     ensures not_built { result.status ≡ 1 → IsNotBuilt (S.left src.old) (S.left src.new) × Appends (K.taken out.old) (K.taken out.new) refused_line }
 
-    // The source's faults give status 3, with nothing written, and the sink's status 4.
+    // The source's faults give status 3, with nothing written. The sink's give status 4, with a front of the text that was due.
     ensures read_failed { result.status ≡ 3 → Rose (S.faults src.old) (S.faults src.new) × Keeps (K.taken out.old) (K.taken out.new) }
-    ensures write_failed { result.status ≡ 4 → IsCut (K.taken out.old) (K.taken out.new) (K.faults out.old) (K.faults out.new) }
+    ensures write_failed { result.status ≡ 4 → IsCut (K.taken out.old) (K.taken out.new) (K.faults out.old) (K.faults out.new) (text_due (is_sim words.now) result.script result.book) }
     ensures statuses { result.status < 6 }
+
+    // The script is there exactly where the book is: where the script ran. At status 4 it did not run only where there was none.
+    ensures together { is_some result.script ≡ is_some result.book }
+    ensures no_book { (0 < result.status) × (result.status < 4) → result.book ≡ None }
+    ensures no_words { is_sim words.now ≡ false → result.book ≡ None }
+    ensures no_script { result.status ≡ 4 → is_sim words.now ≡ true → result.book ≡ None → IsNotBuilt (S.left src.old) (S.left src.new) }
+
+    // The script is the one that was read, and the book is of its run: a legal history from the script's opening, its actor's calls in
+    // turn, and its log.
+    ensures script_read { WhereRan result (λ script book. IsScriptRead (S.left src.old) (S.left src.new) script) }
+    ensures opening { WhereRan result (λ script book. book.kept.opening ≡ opening_of script.docs) }
+    ensures legal { WhereRan result (λ script book. IsLegalFor script book.kept) }
+    ensures in_turn { WhereRan result (λ script book. IsInTurn book.kept) }
+    ensures log { WhereRan result (λ script book. HasCommitted book) }
+
+    // In this history no attempt both commits and is rolled back, and at every moment each document resolves to what the committed
+    // write sets make of it.
+    ensures never_both { WhereRan result (λ script book. NeverBoth book.kept.opening book.kept.history) }
+    ensures documents { WhereRan result (λ script book. ShowsTable script book) }
 {
     if is_sim(words) {
         sim(alloc, src, out, clock)
@@ -83,11 +105,16 @@ pub fn still<S: Source, K: Sink, C: Clock>(
 // Runs the script that the source gives.
 fn sim<S: Source, K: Sink, C: Clock>(alloc: Global, src: &mut S, out: &mut K, clock: C) -> Ran
     ensures no_usage { result.status ≡ 2 → ⊥ }
-    ensures reported { result.status ≡ 0 → IsReported (S.left src.old) (S.left src.new) (K.taken out.old) (K.taken out.new) result.script result.book }
+    ensures reported { result.status ≡ 0 → IsReported (K.taken out.old) (K.taken out.new) result.script result.book }
     ensures not_built { result.status ≡ 1 → IsNotBuilt (S.left src.old) (S.left src.new) × Appends (K.taken out.old) (K.taken out.new) refused_line }
     ensures read_failed { result.status ≡ 3 → Rose (S.faults src.old) (S.faults src.new) × Keeps (K.taken out.old) (K.taken out.new) }
-    ensures write_failed { result.status ≡ 4 → IsCut (K.taken out.old) (K.taken out.new) (K.faults out.old) (K.faults out.new) }
+    ensures write_failed { result.status ≡ 4 → IsCut (K.taken out.old) (K.taken out.new) (K.faults out.old) (K.faults out.new) (text_due true result.script result.book) }
     ensures statuses { result.status < 6 }
+    ensures together { is_some result.script ≡ is_some result.book }
+    ensures no_book { (0 < result.status) × (result.status < 4) → result.book ≡ None }
+    ensures no_script { result.status ≡ 4 → result.book ≡ None → IsNotBuilt (S.left src.old) (S.left src.new) }
+    ensures script_read { WhereRan result (λ script book. IsScriptRead (S.left src.old) (S.left src.new) script) }
+    ensures run { WhereRan result (λ script book. IsRunOf script book) }
 {
     let bytes = match read_all(alloc, src, MAX_INPUT) {
         Ok(bytes) => bytes,
@@ -122,7 +149,7 @@ fn written<K: Sink>(out: &mut K, text: &str, status: u8) -> u8
     requires { status < 4 }
     ensures status { IsWritten result status }
     ensures whole { result ≡ status → Appends (K.taken out.old) (K.taken out.new) text.now }
-    ensures cut { result ≡ 4 → IsCut (K.taken out.old) (K.taken out.new) (K.faults out.old) (K.faults out.new) }
+    ensures cut { result ≡ 4 → IsCut (K.taken out.old) (K.taken out.new) (K.faults out.old) (K.faults out.new) text.now }
 {
     match write_all(out, text.as_bytes()) {
         Ok(()) => status,

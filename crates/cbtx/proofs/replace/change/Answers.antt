@@ -1,7 +1,4 @@
-use Rattle.cbt_model.specs.Faults.{fate_of}
-use Rattle.cbt_model.specs.Legal.{calls_below}
 use Rattle.cbtx.proofs.Told.{plain-fate, told, done-is, change_told}
-use Rattle.std.proofs.Common.{◌+◌, length, sym, ◌∙◌}
 use Rattle.cbtx.proofs.replace.change.Goals as goal
 
 pub unreachable-requires : goal.unreachable-requires

@@ -1,5 +1,4 @@
 use Rattle.cbtx.proofs.Told.{plain-fate, told, doc-is, called}
-use Rattle.std.proofs.Common.{◌≡◌, sym, ◌∙◌}
 use Rattle.cbtx.proofs.replace.read.Goals as goal
 
 pub unreachable-requires : goal.unreachable-requires
