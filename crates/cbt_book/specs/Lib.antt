@@ -1,0 +1,9 @@
+pub mod OwnLists
+pub mod Numbers
+pub mod Shown
+pub mod Shares
+pub mod Licence
+pub mod ReadAt
+pub mod Spans
+pub mod Passes
+pub mod Cleaners

@@ -15,7 +15,7 @@ use Rattle.cbt_model.specs.declared.steps.Step.{Step}
 use Rattle.cbt_model.proofs.Does.{Does, does, refuses, stages_new, stages_over, publishes, deletes, unsticks, adds, commits, aborts, drops, beats}
 use Rattle.cbt_model.proofs.Orders.{doc_order, entry_order, id_order}
 
-rises-without_gone : (me : ℕ) (gone : List ℕ) (rows : List (ℕ × ClientRow)) → Rises id_cmp rows → Rises id_cmp (without_gone me gone rows)
+pub rises-without_gone : (me : ℕ) (gone : List ℕ) (rows : List (ℕ × ClientRow)) → Rises id_cmp rows → Rises id_cmp (without_gone me gone rows)
 rises-without_gone me [] rows rises = rises
 rises-without_gone me (id ∷ gone) rows rises = rises-without_gone me gone (if nat_eq id me then rows else without_key id_cmp rows id) (step (nat_eq id me))
   where

@@ -1,0 +1,164 @@
+-- The parts of a log by their numbers.
+use Rattle.std.proofs.Common.{◌≡◌, ℕ, zero, suc, ◌+◌, ◌-◌, List, [], ◌∷◌, take, slice_get, option_and_then, Option, Some, None, refl, sym, ap, ◌∙◌, subst, arith}
+use Rattle.std.proofs.lemmas.Option.{none-some}
+use Rattle.cbt_expr.specs.declared.plans.ClientPlan.{ClientPlan}
+use Rattle.cbt_expr.specs.declared.plans.Op.{Op}
+use Rattle.cbt_expr.specs.declared.plans.TxnPlan.{TxnPlan}
+use Rattle.cbt_model.specs.declared.events.Made.{Made}
+use Rattle.cbt_book.specs.declared.book.Book.{Book}
+use Rattle.cbt_book.specs.declared.clients.AttemptLog.{AttemptLog}
+use Rattle.cbt_book.specs.declared.clients.ClientLog.{ClientLog}
+use Rattle.cbt_book.specs.declared.clients.TxnLog.{TxnLog}
+use Rattle.cbt_book.specs.declared.operations.OpLog.{OpLog}
+use Rattle.cbt_core.specs.Attempts.{AttemptFollows}
+use Rattle.cbt_core.specs.Clients.{TxnsFollow}
+use Rattle.cbt_core.specs.Walk.{Trying, Sofar, noted, walked, nothing_yet}
+use Rattle.cbt_core.specs.Operations.{OpFollows, OpsFollow}
+use Rattle.cbt_core.specs.Right.{IsAnswer}
+use Rattle.cbt_core.specs.Runs.{IsLegalRun, LogsFollow, own_of}
+use Rattle.cbt_core.specs.Transactions.{Making, trying, AttemptsFollow, TxnFollows, attempts_end}
+use Rattle.cbt_core.specs.WriteSets.{numbered, plan_at, txn_at, attempt_at}
+use Rattle.cbt_core.specs.declared.case.Case.{Case}
+use Rattle.cbt_core.proofs.Past.{some_same}
+
+plus_none : (n : ℕ) → n ≡ n + 0
+plus_none n = omega arith
+
+plus_one : (n i : ℕ) → suc n + i ≡ n + suc i
+plus_one n i = omega arith
+
+one_more : (i : ℕ) → 1 + i ≡ suc i
+one_more i = omega arith
+
+-- the operation with this number
+pub record OpAt (t : Trying) (l : List Made) (o : Op) (log : OpLog) (so : Sofar) : Type 0 where
+  pub at : ℕ
+  pub number : ℕ
+  pub follows : OpFollows t l at number so o log
+
+pub op_at : (t : Trying) (l : List Made) (at n : ℕ) (so : Sofar) (ops : List Op) (logs : List OpLog) (j : ℕ) (o : Op) (log : OpLog) → OpsFollow t l at n so ops logs → slice_get ops j ≡ Some o
+    → slice_get logs j ≡ Some log → OpAt t l o log (walked (take j ops) (take j logs) so)
+op_at t l at n so ops [] j o log follow op_is log_is = absurd (none_there j)
+  where
+    none_there : (j : ℕ) → ⊥
+    none_there j = none-some log (sym (empty j) ∙ log_is)
+      where
+        empty : (j : ℕ) → slice_get {X = OpLog} [] j ≡ None
+        empty j = refl
+op_at t l at n so [] (x ∷ logs) j o log follow op_is log_is = absurd follow
+op_at t l at n so (p ∷ ops) (x ∷ logs) zero o log follow op_is log_is =
+    let op_same : p ≡ o = some_same op_is in
+    let log_same : x ≡ log = some_same log_is in
+    record { at = at; number = n; follows = subst (λ q. OpFollows t l at n so q log) op_same (subst (λ y. OpFollows t l at n so p y) log_same follow.0) }
+op_at t l at n so (p ∷ ops) (x ∷ logs) (suc j) o log follow op_is log_is = op_at t l x.span.to (suc n) (noted p x so) ops logs j o log follow.2 op_is log_is
+
+-- the attempt with this number
+pub record TryAt (x : Making) (l : List Made) (start k : ℕ) (log : AttemptLog) : Type 0 where
+  pub at : ℕ
+  pub follows : AttemptFollows (trying x start k) l at log
+
+pub try_at : (x : Making) (l : List Made) (start at n : ℕ) (logs : List AttemptLog) (j : ℕ) (log : AttemptLog) → AttemptsFollow x l start at n logs → slice_get logs j ≡ Some log → TryAt x l start (n + j) log
+try_at x l start at n [] j log follow is = absurd (none-some log is)
+try_at x l start at n (y ∷ logs) zero log follow is =
+    record { at = at; follows = subst (λ z. AttemptFollows (trying x start (n + 0)) l at z) (some_same is) (subst (λ k. AttemptFollows (trying x start k) l at y) (plus_none n) follow.0) }
+try_at x l start at n (y ∷ logs) (suc j) log follow is =
+    let it = try_at x l start y.span.to (suc n) logs j log follow.2 is in record { at = it.at; follows = subst (λ k. AttemptFollows (trying x start k) l it.at log) (plus_one n j) it.follows }
+
+-- the transaction with this number
+pub record TxnAt (client atrs : ℕ) (l : List Made) (number : ℕ) (plan : TxnPlan) (log : TxnLog) : Type 0 where
+  pub at : ℕ
+  pub follows : TxnFollows (record { client = client; number = number; plan = plan; atrs = atrs }) l at log
+
+pub txn_by : (client atrs : ℕ) (l : List Made) (at n : ℕ) (plans : List TxnPlan) (logs : List TxnLog) (j : ℕ) (log : TxnLog) → TxnsFollow client atrs l at n plans logs → slice_get logs j ≡ Some log
+    → (plan : TxnPlan) × (slice_get plans j ≡ Some plan) × TxnAt client atrs l (n + j) plan log
+txn_by client atrs l at n plans [] j log follow is = absurd (none-some log is)
+txn_by client atrs l at n [] (y ∷ logs) j log follow is = absurd follow
+txn_by client atrs l at n (p ∷ plans) (y ∷ logs) zero log follow is = (
+  p,
+  refl,
+  record {
+    at = at;
+    follows = subst (λ z. TxnFollows (record { client = client; number = n + 0; plan = p; atrs = atrs }) l at z) (some_same is)
+        (subst (λ k. TxnFollows (record { client = client; number = k; plan = p; atrs = atrs }) l at y) (plus_none n) follow.0);
+  },
+)
+txn_by client atrs l at n (p ∷ plans) (y ∷ logs) (suc j) log follow is =
+    let it = txn_by client atrs l (attempts_end at y.attempts) (suc n) plans logs j log follow.2 is in
+    (it.0, it.1, record { at = it.2.at; follows = subst (λ k. TxnFollows (record { client = client; number = k; plan = it.0; atrs = atrs }) l it.2.at log) (plus_one n j) it.2.follows })
+
+pub found : {X Y : Type 0} (o : Option X) (f : X → Option Y) (y : Y) → option_and_then f o ≡ Some y → (x : X) × (o ≡ Some x) × (f x ≡ Some y)
+found None f y is = absurd (none-some y is)
+found (Some x) f y is = (x, refl, is)
+
+pub from_one : {X : Type 0} (xs : List X) (n : ℕ) (x : X) → numbered xs n ≡ Some x → (j : ℕ) × (n ≡ suc j) × (slice_get xs j ≡ Some x)
+from_one xs zero x is = absurd (none-some x is)
+from_one xs (suc j) x is = (j, refl, is)
+
+module _ (case : Case) (book : Book) (legal : IsLegalRun case book) (follow : LogsFollow case book) where
+  -- a client's transaction by its numbers
+  pub record TxnOf (client txn : ℕ) (log : TxnLog) : Type 0 where
+    pub plan : TxnPlan
+    pub plan_is : plan_at case.plans client txn ≡ Some plan
+    pub at : ℕ
+    pub follows : TxnFollows (record { client = client; number = txn; plan = plan; atrs = case.atrs }) (own_of book client) at log
+
+  pub txn_of_run : (client txn : ℕ) (plan : ClientPlan) (log : TxnLog) → numbered case.plans client ≡ Some plan → txn_at book.clients client txn ≡ Some log → TxnOf client txn log
+  txn_of_run client txn plan log plan_is is =
+      let c = found (numbered book.clients client) (λ (x : ClientLog). numbered x.txns txn) log is in
+      let j = from_one c.0.txns txn log c.2 in
+      let it = txn_by client case.atrs (own_of book client) 0 1 plan.txns c.0.txns j.0 log (follow.clients.each client plan c.0 plan_is c.1).txns j.2 in
+      let number : 1 + j.0 ≡ txn = one_more j.0 ∙ sym j.1 in
+      record {
+        plan = it.0;
+        plan_is = ap (λ o. option_and_then (λ (x : ClientPlan). numbered x.txns txn) o) plan_is ∙ ap (λ k. numbered plan.txns k) j.1 ∙ it.1;
+        at = it.2.at;
+        follows = subst (λ k. TxnFollows (record { client = client; number = k; plan = it.0; atrs = case.atrs }) (own_of book client) it.2.at log) number it.2.follows;
+      }
+
+  -- one of its attempts
+  pub record TryOf (client txn try_no : ℕ) (plan : TxnPlan) (log : AttemptLog) : Type 0 where
+    pub start : ℕ
+    pub at : ℕ
+    pub follows : AttemptFollows (trying (record { client = client; number = txn; plan = plan; atrs = case.atrs }) start try_no) (own_of book client) at log
+
+  pub try_of_run : (client txn try_no : ℕ) (plan : ClientPlan) (log : AttemptLog) (x : TxnPlan) → numbered case.plans client ≡ Some plan → plan_at case.plans client txn ≡ Some x
+      → attempt_at book.clients client txn try_no ≡ Some log → TryOf client txn try_no x log
+  try_of_run client txn try_no plan log x plan_is x_is is =
+      let tx = found (txn_at book.clients client txn) (λ (y : TxnLog). numbered y.attempts try_no) log is in
+      let it = txn_of_run client txn plan tx.0 plan_is tx.1 in
+      let j = from_one tx.0.attempts try_no log tx.2 in
+      let one = try_at (record { client = client; number = txn; plan = it.plan; atrs = case.atrs }) (own_of book client) it.follows.start it.at 1 tx.0.attempts j.0 log it.follows.attempts j.2 in
+      let number : 1 + j.0 ≡ try_no = one_more j.0 ∙ sym j.1 in
+      let same : it.plan ≡ x = some_same (sym it.plan_is ∙ x_is) in
+      record {
+        start = it.follows.start;
+        at = one.at;
+        follows = subst (λ y. AttemptFollows (trying (record { client = client; number = txn; plan = y; atrs = case.atrs }) it.follows.start try_no) (own_of book client) one.at log) same
+            (subst (λ k. AttemptFollows (trying (record { client = client; number = txn; plan = it.plan; atrs = case.atrs }) it.follows.start k) (own_of book client) one.at log) number one.follows);
+      }
+
+  -- the operation of an answer
+  pub record OpOf (client txn try_no : ℕ) (plan : TxnPlan) (o : Op) (log : OpLog) (so : Sofar) : Type 0 where
+    pub t : Trying
+    pub at : ℕ
+    pub number : ℕ
+    pub follows : OpFollows t (own_of book client) at number so o log
+
+  minus_one : (j : ℕ) → suc j - 1 ≡ j
+  minus_one j = omega arith
+
+  pub op_of_run : (client txn try_no n : ℕ) (o : Op) (log : OpLog) (so : Sofar) (it : IsAnswer case book client txn try_no n o log so) → OpOf client txn try_no it.plan o log so
+  op_of_run client txn try_no n o log so it =
+      let c = found (numbered case.plans client) (λ (p : ClientPlan). numbered p.txns txn) it.plan it.plan_is in
+      let try_is = try_of_run client txn try_no c.0 it.attempt it.plan c.1 it.plan_is it.attempt_is in
+      let j = from_one it.plan.ops n o it.op_is in
+      let log_is : slice_get it.attempt.ops j.0 ≡ Some log = ap (λ k. numbered it.attempt.ops k) (sym j.1) ∙ it.log_is in
+      let t = trying (record { client = client; number = txn; plan = it.plan; atrs = case.atrs }) try_is.start try_no in
+      let op = op_at t (own_of book client) try_is.at 1 nothing_yet it.plan.ops it.attempt.ops j.0 o log try_is.follows.ops j.2 log_is in
+      let index : n - 1 ≡ j.0 = ap (λ k. k - 1) j.1 ∙ minus_one j.0 in
+      record {
+        t = t;
+        at = op.at;
+        number = op.number;
+        follows = subst (λ s. OpFollows t (own_of book client) op.at op.number s o log) (ap (λ k. walked (take k it.plan.ops) (take k it.attempt.ops) nothing_yet) (sym index) ∙ sym it.sofar_is) op.follows;
+      }

@@ -1,0 +1,13 @@
+use Rattle.cbt_core.proofs.FreshOpenings.{lawful_run}
+use Rattle.cbt_core.proofs.RightAnswers.{answers_right, moments_rise}
+use Rattle.cbt_core.proofs.laws.k3.Goals as goal
+
+pub returns-clause-answers : goal.returns-clause-answers
+returns-clause-answers c client txn try_no n o log so it =
+    answers_right c.args.case.now c.args.book.now c.requires.legal c.requires.follow
+    (lawful_run c.args.case.now c.args.book.now c.requires.legal c.requires.licensed c.requires.sound c.requires.fresh) client txn try_no n o log so it
+
+pub returns-clause-moments : goal.returns-clause-moments
+returns-clause-moments c client log is =
+    moments_rise c.args.case.now c.args.book.now c.requires.legal c.requires.follow
+    (lawful_run c.args.case.now c.args.book.now c.requires.legal c.requires.licensed c.requires.sound c.requires.fresh) client log is

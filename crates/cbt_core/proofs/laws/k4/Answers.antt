@@ -1,0 +1,10 @@
+use Rattle.cbt_core.proofs.FreshOpenings.{lawful_run}
+use Rattle.cbt_core.proofs.Passed.{passes_leave}
+use Rattle.cbt_core.proofs.laws.k4.Goals as goal
+
+pub returns : goal.returns
+returns c = record {
+  passes = λ pass covered a i is ok listed after_end.
+      passes_leave c.args.case.now c.args.book.now c.requires.legal c.requires.follow
+      (lawful_run c.args.case.now c.args.book.now c.requires.legal c.requires.licensed c.requires.sound c.requires.fresh) pass covered a i is ok listed after_end;
+}

@@ -1,0 +1,202 @@
+-- What it is that the log of an attempt follows its plan: its operations, what it did after them, and how it ended.
+use Rattle.std.specs.Prelude.{◌≡◌, ◌≢◌, ℕ, ◌<◌, ◌≤◌, ◌⊎◌, ◌↔◌, Bool, true, false, is_some, List, [], ◌∷◌, ◌++◌, length, drop, count_by, Option, Some, None}
+use Rattle.std.specs.List.{list_all}
+use Rattle.cbt_expr.specs.declared.plans.Op.{Op}
+use Rattle.cbt_model.specs.History.{commits}
+use Rattle.cbt_model.specs.declared.entries.Entry.{Entry}
+use Rattle.cbt_model.specs.declared.entries.EntryState.TheVariants.{Committed}
+use Rattle.cbt_model.specs.declared.entries.Lists.{Lists}
+use Rattle.cbt_model.specs.declared.events.Made.{Made}
+use Rattle.cbt_model.specs.declared.steps.Reply.{Reply}
+use Rattle.cbt_model.specs.declared.steps.Reply.TheVariants as reply
+use Rattle.cbt_model.specs.declared.steps.Step.{Step}
+use Rattle.cbt_model.specs.declared.steps.Step.TheVariants as step
+use Rattle.cbt_book.specs.Licence.{IsListed}
+use Rattle.cbt_book.specs.OwnLists.{Once, Kept, Each, during}
+use Rattle.cbt_book.specs.Passes.{IsDropped}
+use Rattle.cbt_book.specs.Shown.{ReadsEntry, adds, aborts, decides}
+use Rattle.cbt_book.specs.Spans.{IsSpan}
+use Rattle.cbt_book.specs.declared.clients.AttemptEnd.{AttemptEnd}
+use Rattle.cbt_book.specs.declared.clients.AttemptEnd.TheVariants as attempt_end
+use Rattle.cbt_book.specs.declared.clients.AttemptLog.{AttemptLog}
+use Rattle.cbt_book.specs.declared.operations.OpLog.{OpLog}
+use Rattle.cbt_core.specs.OpCalls.{OpCalls}
+use Rattle.cbt_core.specs.Operations.{OpsFollow, ops_end, is_good}
+use Rattle.cbt_core.specs.Walk.{Trying, Sofar, nothing_yet, request_of, walked}
+
+-- answered Failed or Decided: the actor does not know what became of its commit
+abbrev pub IsInDoubt : Reply → Type 0
+IsInDoubt r = (r ≡ reply.Failed) ⊎ (r ≡ reply.Decided)
+
+-- a commit of attempt a in record r, answered so
+abbrev pub CommitsInDoubt : ℕ → ℕ → Made → Type 0
+CommitsInDoubt r a m = ((lists : Lists) × (m.step ≡ step.Commit r a lists)) × IsInDoubt m.answer.reply
+
+-- a commit of attempt a, or a reading of its entry
+abbrev pub Settles : ℕ → Made → Type 0
+Settles a m = (commits m.step ≡ Some a) ⊎ ((r : ℕ) × (m.step ≡ step.ReadEntry r a))
+
+-- the attempt's last commit lists document d, and so does its abort
+abbrev pub CommitLists : ℕ → List ℕ → List Made → Type 0
+CommitLists a d past = Kept (λ m _. (r : ℕ) × (lists : Lists) × (m.step ≡ step.Commit r a lists) × IsListed d lists) (λ m _. commits m.step ≡ Some a) past
+
+abbrev pub AbortLists : ℕ → List ℕ → List Made → Type 0
+AbortLists a d past = Once (λ m _. (r : ℕ) × (lists : Lists) × (m.step ≡ step.Abort r a lists) × IsListed d lists) past
+
+-- the document whose staging a step makes its body
+abbrev pub resolves : Step → Option (List ℕ)
+resolves (step.Publish d x body) = Some d
+resolves (step.Delete d x) = Some d
+resolves _ = None
+
+abbrev pub drops : Step → Option ℕ
+drops (step.DropEntry r a guarded) = Some a
+drops _ = None
+
+-- what attempt a may call after its operations and these calls: up to three commits, after each that was not settled a reading of
+-- its entry, and then one publication or deletion of each document that its last commit lists; or an abort, and then one reading
+-- and one unstick of each document that the abort lists; at the end of either an unguarded drop
+abbrev pub MayClose : ℕ → List Made → Step → Type 0
+MayClose a past (step.Commit r b lists) = (b ≡ a) × (count_by (λ m. is_some (commits m.step)) past < 3)
+MayClose a past (step.ReadEntry r b) = (b ≡ a) × Kept (λ m _. CommitsInDoubt r a m) (λ m _. Settles a m) past
+MayClose a past (step.Publish d x body) = CommitLists a d past × (¬ Once (λ m _. resolves m.step ≡ Some d) past)
+MayClose a past (step.Delete d x) = CommitLists a d past × (¬ Once (λ m _. resolves m.step ≡ Some d) past)
+MayClose a past (step.Abort r b lists) = (b ≡ a) × (¬ Once (λ m _. aborts m.step ≡ Some a) past)
+MayClose a past (step.ReadDoc d) = AbortLists a d past × (¬ Once (λ m _. m.step ≡ step.ReadDoc d) past)
+MayClose a past (step.Unstick d x) = AbortLists a d past × (¬ Once (λ m _. (y : ℕ) × (m.step ≡ step.Unstick d y)) past)
+MayClose a past (step.DropEntry r b false) = (b ≡ a) × Once (λ m _. decides m.step ≡ Some a) past × (¬ Once (λ m _. drops m.step ≡ Some a) past)
+MayClose a past _ = ⊥
+
+-- all operations were answered well
+abbrev pub all_good : List OpLog → Bool
+all_good logs = list_all (λ log. is_good log.answer) logs
+
+-- P is so of the last operation
+abbrev pub LastIs : (OpLog → Type 0) → List OpLog → Type 0
+LastIs P [] = ⊥
+LastIs P (log ∷ []) = P log
+LastIs P (log ∷ next ∷ logs) = LastIs P (next ∷ logs)
+
+-- an attempt as its log tells it, with the operations left, the calls of one that was cut off, and the calls after them
+pub record Course : Type 0 where
+  pub log : AttemptLog
+  pub sofar : Sofar
+  pub left : List Op
+  pub cut : List Made
+  pub closing : List Made
+
+abbrev pub course_of : Trying → AttemptLog → List Made → List Made → Course
+course_of t log cut closing =
+    record { log = log; sofar = walked t.plan.ops log.ops nothing_yet; left = drop (length log.ops) t.plan.ops; cut = cut; closing = closing }
+
+-- its newest call of an operation came back after the transaction's time
+abbrev pub IsLate : Trying → List Made → Type 0
+IsLate t [] = ⊥
+IsLate t (m ∷ older) = t.latest < m.answer.now
+
+-- an operation was cut off by expiry, or by a stop before anything followed: its calls are those of the next operation, and only
+-- the newest may be late
+pub record IsCut (t : Trying) (c : Course) (newest : Made) (older : List Made) : Type 0 where
+  pub next : Op
+  pub rest : List Op
+  pub left_is : c.left ≡ next ∷ rest
+  pub good : all_good c.log.ops ≡ true
+  pub calls : OpCalls t (request_of c.sofar.bound next) (newest ∷ older)
+  pub in_time : Each (λ m _. m.answer.now ≤ t.latest) older
+  pub answered : Each (λ m _. m.answer.reply ≢ reply.Failed) older
+  pub why : (t.latest < newest.answer.now) ⊎ ((c.log.end ≡ attempt_end.Stopped) × (c.closing ≡ []))
+
+abbrev pub CutFollows : Trying → Course → List Made → Type 0
+CutFollows t c [] = Unit {0}
+CutFollows t c (m ∷ older) = IsCut t c m older
+
+-- why there are no more operations
+pub data HasEnded (c : Course) : Type 0 where
+  all_answered : c.left ≡ [] → HasEnded c
+  last_refused : LastIs (λ log. is_good log.answer ≡ false) c.log.ops → HasEnded c
+  cut_off : c.cut ≢ [] → HasEnded c
+  stopped : c.log.end ≡ attempt_end.Stopped → HasEnded c
+
+-- an attempt may be committed where all its operations were answered well, and its plan keeps them
+pub record MayKeep (t : Trying) (c : Course) : Type 0 where
+  pub all : c.left ≡ []
+  pub good : all_good c.log.ops ≡ true
+  pub keep : t.plan.keep ≡ true
+
+-- why an attempt is rolled back
+pub data MayRollBack (t : Trying) (c : Course) : Type 0 where
+  for_answer : LastIs (λ log. is_good log.answer ≡ false) c.log.ops → MayRollBack t c
+  for_time : IsLate t c.cut → MayRollBack t c
+  for_plan : c.left ≡ [] → all_good c.log.ops ≡ true → t.plan.keep ≡ false → MayRollBack t c
+  for_commits : c.log.not_committed ≡ true → MayRollBack t c
+
+-- the third commit was not settled, and the reading of the entry after it showed it not committed
+abbrev pub ThirdInVain : ℕ → List Made → Type 0
+ThirdInVain a closing =
+    Once (λ n before. (r : ℕ) × ((e : Entry) × ReadsEntry r a e n × (e.state ≢ Committed)) × (count_by (λ m. is_some (commits m.step)) before ≡ 3)
+    × Kept (λ m _. CommitsInDoubt r a m) (λ m _. Settles a m) before) closing
+
+-- the last commit, at this place, was answered Done, or its entry was read committed next
+pub data CommitHolds (a place : ℕ) (closing : List Made) : Type 0 where
+  told : Kept (λ m _. (m.answer.place ≡ place) × ((r c : ℕ) × (lists : Lists) × (m.step ≡ step.Commit r a lists) × (m.answer.reply ≡ reply.Done c)))
+      (λ m _. commits m.step ≡ Some a) closing → CommitHolds a place closing
+  read : Kept (λ n before. (r : ℕ) × ((e : Entry) × ReadsEntry r a e n × (e.state ≡ Committed))
+      × Kept (λ m _. (m.answer.place ≡ place) × CommitsInDoubt r a m) (λ m _. Settles a m) before)
+      (λ m _. commits m.step ≡ Some a) closing → CommitHolds a place closing
+
+-- a call that finishes a commit: a publication, a deletion or the drop of the entry
+abbrev pub finishes : Step → Bool
+finishes (step.Publish d x body) = true
+finishes (step.Delete d x) = true
+finishes (step.DropEntry r a guarded) = true
+finishes _ = false
+
+-- complete where the entry was dropped and no such call failed, and else one of them failed
+abbrev pub IsFinished : ℕ → List Made → Bool → Type 0
+IsFinished a closing true =
+    Once (λ m _. ((r : ℕ) × (m.step ≡ step.DropEntry r a false)) × IsDropped m.answer.reply) closing
+    × Each (λ m _. finishes m.step ≡ true → m.answer.reply ≢ reply.Failed) closing
+IsFinished a closing false = Once (λ m _. (finishes m.step ≡ true) × (m.answer.reply ≡ reply.Failed)) closing
+
+-- the attempt has been aborted by the newest of these calls, or before
+abbrev pub HasAborted : ℕ → List Made → Type 0
+HasAborted a calls = Once (λ n _. aborts n.step ≡ Some a) calls
+
+-- nothing of the attempt is left: no entry was sent, or its abort found none, or the entry was dropped after the abort
+pub data IsUndone (a : ℕ) (calls closing : List Made) : Type 0 where
+  unsent : Each (λ m _. adds m.step ≢ Some a) calls → closing ≡ [] → IsUndone a calls closing
+  no_entry : Once (λ m _. (aborts m.step ≡ Some a) × (m.answer.reply ≡ reply.NoEntry)) closing → IsUndone a calls closing
+  dropped : Once (λ m before. ((r : ℕ) × (m.step ≡ step.DropEntry r a false)) × IsDropped m.answer.reply × HasAborted a before) closing → IsUndone a calls closing
+
+-- how an attempt may end; its calls are those of its whole span
+abbrev pub Ends : Trying → Course → List Made → AttemptEnd → Type 0
+Ends t c calls (attempt_end.Committed place complete) = MayKeep t c × CommitHolds t.id place c.closing × IsFinished t.id c.closing complete
+Ends t c calls attempt_end.Empty = MayKeep t c × (c.closing ≡ []) × Each (λ m _. adds m.step ≢ Some t.id) calls
+Ends t c calls attempt_end.RolledBack = MayRollBack t c × IsUndone t.id calls c.closing
+    × Each (λ m before. HasAborted t.id (m ∷ before) → m.answer.reply ≢ reply.Failed) c.closing
+Ends t c calls (attempt_end.EntryLost place) = MayKeep t c
+    × Kept (λ m _. (m.answer.place ≡ place) × (commits m.step ≡ Some t.id) × (m.answer.reply ≡ reply.NoEntry)) (λ m _. commits m.step ≡ Some t.id) c.closing
+Ends t c calls (attempt_end.Unknown commit reading) = MayKeep t c
+    × Once (λ n before. (r : ℕ) × (n.answer.place ≡ reading) × (n.step ≡ step.ReadEntry r t.id) × ((n.answer.reply ≡ reply.Failed) ⊎ (n.answer.reply ≡ reply.NoEntry))
+    × Kept (λ m _. (m.answer.place ≡ commit) × CommitsInDoubt r t.id m) (λ m _. Settles t.id m) before) c.closing
+Ends t c calls (attempt_end.Incomplete place) = MayRollBack t c
+    × Once (λ m before. (m.answer.place ≡ place) × (m.answer.reply ≡ reply.Failed) × HasAborted t.id (m ∷ before)) c.closing
+Ends t c calls attempt_end.Stopped = Unit {0}
+
+-- the log of an attempt
+pub record AttemptFollows (t : Trying) (l : List Made) (at : ℕ) (log : AttemptLog) : Type 0 where
+  pub id : log.id ≡ t.id
+  pub spanned : IsSpan l at log.span
+  pub ops : OpsFollow t l at 1 nothing_yet t.plan.ops log.ops
+  pub held : ops_end at log.ops ≤ log.span.to
+  -- after the operations that were answered: the calls of one that was cut off, and then those that close the attempt
+  pub cut : List Made
+  pub closing : List Made
+  pub rest : during (record { from = ops_end at log.ops; to = log.span.to }) l ≡ closing ++ cut
+  pub cut_follows : CutFollows t (course_of t log cut closing) cut
+  pub ended : HasEnded (course_of t log cut closing)
+  pub closes : Each (λ m past. MayClose t.id past m.step) closing
+  pub may_commit : Once (λ m _. commits m.step ≡ Some t.id) closing → MayKeep t (course_of t log cut closing)
+  pub may_abort : Once (λ m _. aborts m.step ≡ Some t.id) closing → MayRollBack t (course_of t log cut closing)
+  pub third : (log.not_committed ≡ true) ↔ ThirdInVain t.id closing
+  pub ends : Ends t (course_of t log cut closing) (during log.span l) log.end

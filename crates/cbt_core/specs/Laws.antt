@@ -1,0 +1,122 @@
+-- What the laws say of runs.
+use Rattle.std.specs.Prelude.{◌≡◌, ◌≢◌, ℕ, ◌<◌, ◌≤◌, Bool, true, false, List, length, slice_get, Some, None}
+use Rattle.cbt_expr.specs.declared.plans.Op.{Op}
+use Rattle.cbt_model.specs.History.{after, made_at, commits, CommitsAt, RollsBackAt}
+use Rattle.cbt_model.specs.Keys.{doc_at, entry_at}
+use Rattle.cbt_model.specs.View.{view}
+use Rattle.cbt_model.specs.declared.documents.DocState.{DocState}
+use Rattle.cbt_model.specs.declared.documents.Stage.{Stage}
+use Rattle.cbt_model.specs.declared.entries.Lists.{Lists}
+use Rattle.cbt_model.specs.declared.events.Event.{Event}
+use Rattle.cbt_model.specs.declared.states.State.{State}
+use Rattle.cbt_model.specs.declared.steps.Reply.TheVariants as reply
+use Rattle.cbt_book.specs.Licence.{IsListed}
+use Rattle.cbt_book.specs.OwnLists.{In}
+use Rattle.cbt_book.specs.declared.book.Book.{Book}
+use Rattle.cbt_book.specs.declared.cleaners.CleanerLog.{CleanerLog}
+use Rattle.cbt_book.specs.declared.cleaners.PassEnd.TheVariants as pass_end
+use Rattle.cbt_book.specs.declared.cleaners.PassLog.{PassLog}
+use Rattle.cbt_book.specs.declared.cleaners.RoundLog.{RoundLog}
+use Rattle.cbt_book.specs.declared.clients.AttemptEnd.TheVariants as attempt_end
+use Rattle.cbt_book.specs.declared.clients.AttemptLog.{AttemptLog}
+use Rattle.cbt_book.specs.declared.clients.TxnEnd.{TxnEnd}
+use Rattle.cbt_book.specs.declared.clients.TxnEnd.TheVariants as txn_end
+use Rattle.cbt_book.specs.declared.clients.TxnLog.{TxnLog}
+use Rattle.cbt_book.specs.declared.operations.OpAnswer.TheVariants as answer
+use Rattle.cbt_book.specs.declared.operations.OpLog.{OpLog}
+use Rattle.cbt_book.specs.declared.operations.When.TheVariants as when
+use Rattle.cbt_core.specs.Committed.{table_at}
+use Rattle.cbt_core.specs.Invariant.{DecidedAt}
+use Rattle.cbt_core.specs.Right.{IsAnswer, doc_of}
+use Rattle.cbt_core.specs.Walk.{Sofar}
+use Rattle.cbt_core.specs.WriteSets.{numbered, txn_at, attempt_at, write_set}
+use Rattle.cbt_core.specs.declared.case.Case.{Case}
+
+-- no attempt both commits and is rolled back
+abbrev pub NeverBoth : State → List Event → Type 0
+NeverBoth s0 h = (a i j : ℕ) → CommitsAt s0 h a i → RollsBackAt s0 h a j → ⊥
+
+-- no attempt commits at two places
+abbrev pub CommitsOnce : State → List Event → Type 0
+CommitsOnce s0 h = (a i j : ℕ) → CommitsAt s0 h a i → CommitsAt s0 h a j → i ≡ j
+
+-- no commit is answered that its entry is decided
+abbrev pub NoCommitDecided : State → List Event → Type 0
+NoCommitDecided s0 h = (a i : ℕ) (e : Event) → slice_get h i ≡ Some e → commits e.step ≡ Some a → (made_at s0 h i e).answer.reply ≢ reply.Decided
+
+-- at every place of the history, each document resolves to what the committed table has for it
+abbrev pub DocumentsCommitted : Case → Book → Type 0
+DocumentsCommitted case book = (i : ℕ) (d : List ℕ) → i ≤ length book.kept.history
+    → view (after book.kept.opening book.kept.history i) d ≡ table_at (write_set case.plans book.clients) book.kept.opening book.kept.history i d
+
+-- the attempt with this log staged document d over a reading at moment t, and never took that back
+pub record WroteOver (case : Case) (book : Book) (a : ℕ) (d : List ℕ) (t : ℕ) : Type 0 where
+  pub client : ℕ
+  pub txn : ℕ
+  pub try_no : ℕ
+  pub log : AttemptLog
+  pub log_is : attempt_at book.clients client txn try_no ≡ Some log
+  pub id : log.id ≡ a
+  pub n : ℕ
+  pub op : Op
+  pub op_log : OpLog
+  pub sofar : Sofar
+  pub staged : IsAnswer case book client txn try_no n op op_log sofar
+  pub doc : doc_of op ≡ d
+  pub place : ℕ
+  pub answered : op_log.answer ≡ answer.Staged place (when.At t)
+  pub kept : (m : ℕ) (later : Op) (later_log : OpLog) (later_sofar : Sofar) (at : ℕ) → n < m
+      → IsAnswer case book client txn try_no m later later_log later_sofar → doc_of later ≡ d → later_log.answer ≢ answer.Unstaged at
+
+-- between the moment at which a committed attempt read a document that it wrote and its commit, no other attempt commits a write
+-- of that document
+abbrev pub NoUpdateLost : Case → Book → Type 0
+NoUpdateLost case book = (a b p q t : ℕ) (d : List ℕ) → CommitsAt book.kept.opening book.kept.history a q → WroteOver case book a d t
+    → CommitsAt book.kept.opening book.kept.history b p → b ≢ a → write_set case.plans book.clients b d ≢ None → t < p → p < q → ⊥
+
+-- the ends of a transaction that say that none of its attempts commits
+abbrev pub tells_none : TxnEnd → Bool
+tells_none txn_end.Empty = true
+tells_none txn_end.RolledBack = true
+tells_none (txn_end.Failed reason) = true
+tells_none (txn_end.Expired now) = true
+tells_none txn_end.TriesSpent = true
+tells_none (txn_end.CallFailed place) = true
+tells_none (txn_end.Committed complete) = false
+tells_none txn_end.Unknown = false
+tells_none txn_end.Stopped = false
+
+-- one of the attempts of a transaction commits at this place
+pub record TxnCommitsAt (book : Book) (client txn try_no place : ℕ) : Type 0 where
+  pub log : AttemptLog
+  pub log_is : attempt_at book.clients client txn try_no ≡ Some log
+  pub commits : CommitsAt book.kept.opening book.kept.history log.id place
+
+-- at most one attempt of a transaction commits, and once; a transaction that ended Committed has its commit at the place kept, and
+-- one that ended so that none commits has none
+pub record AtMostOnce (book : Book) : Type 0 where
+  pub one : (client txn j k p q : ℕ) → TxnCommitsAt book client txn j p → TxnCommitsAt book client txn k q → (j ≡ k) × (p ≡ q)
+  pub told : (client txn : ℕ) (log : TxnLog) (complete : Bool) → txn_at book.clients client txn ≡ Some log → log.end ≡ txn_end.Committed complete
+      → (attempt : AttemptLog) × (place : ℕ) × (numbered log.attempts (length log.attempts) ≡ Some attempt)
+      × (attempt.end ≡ attempt_end.Committed place complete) × TxnCommitsAt book client txn (length log.attempts) place
+  pub none : (client txn j p : ℕ) (log : TxnLog) → txn_at book.clients client txn ≡ Some log → tells_none log.end ≡ true → TxnCommitsAt book client txn j p → ⊥
+
+-- at this place attempt a has no entry, and of what a commit or an abort of it has listed nothing is staged by it
+pub record IsFinishedAt (s0 : State) (h : List Event) (a i : ℕ) : Type 0 where
+  pub no_entry : (r : ℕ) → entry_at (after s0 h i) (r, a) ≡ None
+  pub unstaged : (q : ℕ) (lists : Lists) (d : List ℕ) (doc : DocState) (stage : Stage) → DecidedAt s0 h q a lists → IsListed d lists → doc_at (after s0 h i) d ≡ Some doc
+      → doc.stage ≡ Some stage → stage.attempt ≢ a
+
+-- a pass of a cleaner, or of the sweep
+pub record IsPass (book : Book) (pass : PassLog) : Type 0 where
+  pub number : ℕ
+  pub cleaner : CleanerLog
+  pub cleaner_is : numbered book.cleaners number ≡ Some cleaner
+  pub round : RoundLog
+  pub round_in : In round cleaner.rounds
+  pub pass_in : In pass round.passes
+
+-- from the end of a pass that ended Ok on, nothing is left of the attempts that it covered
+abbrev pub PassesLeaveNothing : Book → Type 0
+PassesLeaveNothing book = (pass : PassLog) (covered : List ℕ) (a i : ℕ) → IsPass book pass → pass.end ≡ pass_end.Ok covered → In a covered → pass.span.to ≤ i
+    → IsFinishedAt book.kept.opening book.kept.history a i

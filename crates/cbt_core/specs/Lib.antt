@@ -1,0 +1,14 @@
+pub mod Walk
+pub mod WriteSets
+pub mod Committed
+pub mod OpAnswers
+pub mod OpCalls
+pub mod Operations
+pub mod Attempts
+pub mod Transactions
+pub mod Clients
+pub mod Runs
+pub mod Right
+pub mod Laws
+pub mod Invariant
+pub mod Openings

@@ -1,0 +1,119 @@
+//! What holds of every run of licensed actors, however their calls interleave, are lost or come late.
+//! Each function does nothing: what it ensures is the law. They take no memory.
+
+ghost use Rattle.std.specs.Prelude.{◌≡◌, ℕ, ◌≤◌, List, Option, length};
+ghost use Rattle.cbt_json.specs.declared.value.Json.{Json};
+ghost use Rattle.cbt_model.specs.declared.events.Event.{Event};
+ghost use Rattle.cbt_model.specs.declared.states.State.{State};
+ghost use Rattle.cbt_core.specs.Committed.{table_at, table_of, commits_count};
+ghost use Rattle.cbt_core.specs.Invariant.{StampsRise, AddedOnce, DecidedOnce, HeldWhilePending, ListedWhenDecided, GoneWhenFinished, ShownStays};
+ghost use Rattle.cbt_core.specs.Laws.{NeverBoth, CommitsOnce, NoCommitDecided, DocumentsCommitted, PassesLeaveNothing, AtMostOnce};
+ghost use Rattle.cbt_core.specs.Openings.{AreFresh, IsSound};
+ghost use Rattle.cbt_core.specs.Right.{AnswersRight, MomentsRise};
+ghost use Rattle.cbt_core.specs.Runs.{AreLicensed, IsFresh, IsLegalRun, LogsFollow};
+
+use crate::case::Case;
+use cbt_book::Book;
+
+/// An opening in which nobody has written is sound, and every attempt is new to it.
+pub fn fresh_openings()
+    ensures sound { (s : State) → IsFresh s → IsSound s }
+    ensures fresh { (s : State) (h : List Event) → IsFresh s → AreFresh s h }
+{}
+
+/// The interleaving invariant: what is so after every prefix of the history.
+pub fn invariant(case: &Case, book: &Book)
+    requires legal { IsLegalRun case.now book.now }
+    requires licensed { AreLicensed case.now book.now }
+    requires sound { IsSound case.now.opening }
+    requires fresh { AreFresh case.now.opening book.now.kept.history }
+    ensures stamps { StampsRise book.now.kept.opening book.now.kept.history }
+    ensures added { AddedOnce book.now.kept.opening book.now.kept.history }
+    ensures decided { DecidedOnce book.now.kept.opening book.now.kept.history }
+    ensures held { HeldWhilePending book.now.kept.opening book.now.kept.history }
+    ensures listed { ListedWhenDecided book.now.kept.opening book.now.kept.history }
+    ensures gone { GoneWhenFinished book.now.kept.opening book.now.kept.history }
+    ensures shown { ShownStays book.now.kept.opening book.now.kept.history }
+{
+    let _ = case;
+    let _ = book;
+}
+
+/// No attempt both commits and is rolled back, and none commits twice; no commit is answered that its
+/// entry is decided.
+pub fn k1(case: &Case, book: &Book)
+    requires legal { IsLegalRun case.now book.now }
+    requires licensed { AreLicensed case.now book.now }
+    requires sound { IsSound case.now.opening }
+    requires fresh { AreFresh case.now.opening book.now.kept.history }
+    ensures never_both { NeverBoth book.now.kept.opening book.now.kept.history }
+    ensures once { CommitsOnce book.now.kept.opening book.now.kept.history }
+    ensures undecided { NoCommitDecided book.now.kept.opening book.now.kept.history }
+{
+    let _ = case;
+    let _ = book;
+}
+
+/// The committed table at a place of a history is the one after as many commits as stand below that
+/// place.
+pub fn tables_count_commits()
+    ensures { (writes : ℕ → List ℕ → Option (Option Json)) (s0 : State) (h : List Event) (i : ℕ) (d : List ℕ)
+        → i ≤ length h → table_at writes s0 h i d ≡ table_of writes s0 h (commits_count s0 h i) d }
+{}
+
+/// At every place of the history each document resolves to what the committed table has for it: the
+/// opening's documents, and over them the write sets of the commits so far, as the logs tell them.
+pub fn k2(case: &Case, book: &Book)
+    requires legal { IsLegalRun case.now book.now }
+    requires licensed { AreLicensed case.now book.now }
+    requires sound { IsSound case.now.opening }
+    requires fresh { AreFresh case.now.opening book.now.kept.history }
+    requires follow { LogsFollow case.now book.now }
+    ensures documents { DocumentsCommitted case.now book.now }
+{
+    let _ = case;
+    let _ = book;
+}
+
+/// Each answer about a document is right: it tells the attempt's own write, or else what the committed
+/// table has at one moment of the operation's span. A client's moments rise.
+pub fn k3(case: &Case, book: &Book)
+    requires legal { IsLegalRun case.now book.now }
+    requires licensed { AreLicensed case.now book.now }
+    requires sound { IsSound case.now.opening }
+    requires fresh { AreFresh case.now.opening book.now.kept.history }
+    requires follow { LogsFollow case.now book.now }
+    ensures answers { AnswersRight case.now book.now }
+    ensures moments { MomentsRise book.now }
+{
+    let _ = case;
+    let _ = book;
+}
+
+/// A pass that ended Ok leaves nothing: from its end on no attempt that it covered has an entry, and no
+/// document that a commit or an abort of such an attempt listed is staged by it.
+pub fn k4(case: &Case, book: &Book)
+    requires legal { IsLegalRun case.now book.now }
+    requires licensed { AreLicensed case.now book.now }
+    requires sound { IsSound case.now.opening }
+    requires fresh { AreFresh case.now.opening book.now.kept.history }
+    requires follow { LogsFollow case.now book.now }
+    ensures passes { PassesLeaveNothing book.now }
+{
+    let _ = case;
+    let _ = book;
+}
+
+/// At most one attempt of a transaction commits, and once. A transaction that ended Committed has its
+/// commit at the place kept, and one whose end tells of none has none.
+pub fn k6(case: &Case, book: &Book)
+    requires legal { IsLegalRun case.now book.now }
+    requires licensed { AreLicensed case.now book.now }
+    requires sound { IsSound case.now.opening }
+    requires fresh { AreFresh case.now.opening book.now.kept.history }
+    requires follow { LogsFollow case.now book.now }
+    ensures at_most_once { AtMostOnce book.now }
+{
+    let _ = case;
+    let _ = book;
+}
