@@ -1,5 +1,6 @@
 -- That the book of a replacement is that of a run.
-use Rattle.std.proofs.Common.{◌≡◌, ℕ, Bool, true, false, cond, List, [], ◌∷◌, Some, None, refl, sym, ap, ◌∙◌, subst}
+use Rattle.std.proofs.Common.{Option, ◌≡◌, ℕ, Bool, true, false, cond, List, [], ◌∷◌, Some, None, refl, sym, ap, ◌∙◌, subst, if◌then◌else◌}
+use Rattle.std.specs.Option.{option_map}
 use Rattle.std.specs.Ordering.{is_eq}
 use Rattle.cbt_base.specs.Ids.{attempt_number}
 use Rattle.cbt_book.specs.declared.book.Book.{Book}
@@ -13,15 +14,20 @@ use Rattle.cbt_model.specs.declared.events.Mark.{Mark}
 use Rattle.cbt_model.specs.declared.states.State.{State}
 use Rattle.cbt_script.specs.Opening.{opening_of}
 use Rattle.cbt_script.specs.declared.script.Script.{Script}
-use Rattle.cbtx.specs.Committed.{table, replaced_by}
+use Rattle.cbt_core.specs.Committed.{applied, table_after}
+use Rattle.cbt_core.specs.Walk.{OwnWrite}
+use Rattle.cbt_core.specs.WriteSets.{write_set}
+use Rattle.cbt_model.specs.View.{view}
+use Rattle.cbt_model.specs.declared.documents.OpKind.TheVariants.{Replace}
+use Rattle.cbtx.specs.Committed.{plans_of}
 use Rattle.cbtx.specs.FirstForm.{Fields, default_expiry, script_with, IsOneReplace}
 use Rattle.cbtx.specs.Headline.{terms_of, IsRunOf}
 use Rattle.cbtx.specs.Logs.{committed_log, log_with}
-use Rattle.cbtx.specs.Path.{Task, attempt_of, opened, path, IsPath}
+use Rattle.cbtx.specs.Path.{Task, attempt_of, opened, IsPath}
 use Rattle.cbtx.specs.Replacing.{task_of, bare_task, Does}
 use Rattle.cbtx.specs.declared.replacement.Replacement.{Replacement}
 use Rattle.cbtx.proofs.Begun.{opening-is}
-use Rattle.cbtx.proofs.Six.{shown, shows, never-both, numbered, in-turn}
+use Rattle.cbtx.proofs.Six.{shown, view-opened, shows, never-both, commits-once, numbered, in-turn}
 
 -- what the one client of a script of the first form does
 abbrev pub task_with : Fields → Tree → Tree → Task
@@ -35,16 +41,21 @@ module _ (f : Fields) (old new : Tree) where
   abbrev task : Task
   task = task_with f old new
 
-  over : (b : Bool) → replaced_by (cond b (Some old) None) (cond b (Some (Some new)) None) ≡ cond b (Some new) None
-  over true = refl
-  over false = refl
+  abbrev writes : List ℕ → Option (Option Tree)
+  writes d = write_set (plans_of (script_with f old new)) (committed_log ∷ []) (attempt_of task) d
 
-  table-before : (book : Book) (d : List ℕ) → table (script_with f old new) book [] d ≡ shown task old d
-  table-before book d = refl
+  abbrev own_write : OwnWrite
+  own_write = record { kind = Replace; content = Some new; place = 2 }
 
-  table-written : (s0 : State) (h : List Event) (d : List ℕ) → table (script_with f old new) (book_with s0 h) (attempt_of task ∷ []) d ≡ shown task new d
-  table-written s0 h d =
-      over (is_eq (doc_cmp d f.id))
+  wrote : (b : Bool) → applied (option_map (λ (w : OwnWrite). w.content) (if b then Some own_write else None)) (cond b (Some old) None) ≡ cond b (Some new) None
+  wrote true = refl
+  wrote false = refl
+
+  table-before : (d : List ℕ) → view (opened task 1 1) d ≡ shown task old d
+  table-before d = view-opened task 1 1 d
+
+  table-written : (d : List ℕ) → applied (writes d) (view (opened task 1 1) d) ≡ shown task new d
+  table-written d = ap (λ o. applied (writes d) o) (table-before d) ∙ wrote (is_eq (doc_cmp d f.id))
 
   pub run-is : (h : List Event) → IsPath task (opened task 1 1) 1 h → KeepsTerms (terms_of (script_with f old new)) h []
       → IsRunOf (script_with f old new) (book_with (opened task 1 1) h)
@@ -57,11 +68,10 @@ module _ (f : Fields) (old new : Tree) where
     in_turn = record { actors = in-turn task 1 1 it.next it.r0 it.r1 it.r2 it.r3 it.r4 it.r5 refl; marks = refl };
     log = record { clients = refl; cleaners = refl };
     never_both = never-both task 1 1 it.next it.r0 it.r1 it.r2 it.r3 it.r4 it.r5;
+    commits_once = commits-once task 1 1 it.next it.r0 it.r1 it.r2 it.r3 it.r4 it.r5;
     documents = record {
       each = shows task 1 1 it.next it.r0 it.r1 it.r2 it.r3 it.r4 it.r5 it.stamp
-          (table (script_with f old new) (book_with (opened task 1 1) (path task 1 it.next it.r0 it.r1 it.r2 it.r3 it.r4 it.r5)))
-          (table-before (book_with (opened task 1 1) (path task 1 it.next it.r0 it.r1 it.r2 it.r3 it.r4 it.r5)))
-          (table-written (opened task 1 1) (path task 1 it.next it.r0 it.r1 it.r2 it.r3 it.r4 it.r5));
+          (λ commits d. table_after (write_set (plans_of (script_with f old new)) (committed_log ∷ [])) (opened task 1 1) commits d) table-before table-written;
     };
   })
 

@@ -17,7 +17,7 @@ use Rattle.cbt_model.specs.declared.entries.Lists.{Lists}
 use Rattle.cbt_model.specs.declared.events.Event.{Event}
 use Rattle.cbt_model.specs.declared.states.State.{State}
 use Rattle.cbt_model.proofs.Orders.{entry_order}
-use Rattle.cbtx.specs.Headline.{NeverBoth}
+use Rattle.cbt_core.specs.Laws.{NeverBoth, CommitsOnce}
 use Rattle.cbtx.specs.Path.{Task, attempt_of, atr_of, staging_of, lists_of, read_step, entry_step, stage_step, commit_step, publish_step, drop_step, opened, entered, staged, committed, published, dropped, plain_event, path}
 use Rattle.cbtx.proofs.Paths.{at-one, state-read, state-entry, state-stage, state-commit, state-publish, state-drop, row-commit}
 use Rattle.cbtx.proofs.Phases.{IsAt}
@@ -38,7 +38,7 @@ module _ (t : Task) where
   abbrev entry : ℕ → EntryState → Lists → Entry
   entry start state lists = record { state = state; start = start; exp = t.hold; lists = lists }
 
-  view-opened : (l c : ℕ) (d : List ℕ) → view (opened t l c) d ≡ shown t t.old d
+  pub view-opened : (l c : ℕ) (d : List ℕ) → view (opened t l c) d ≡ shown t t.old d
   view-opened l c d = view-picked (there d) (opened t l c) (record { cas = c; body = Some t.old; attrs = t.attrs; stage = None })
 
   view-entered : (l c s : ℕ) (d : List ℕ) → view (entered t l c s) d ≡ shown t t.old d
@@ -194,10 +194,10 @@ module _ (t : Task) (last cas next r0 r1 r2 r3 r4 r5 : ℕ) where
   no-rollback (suc (suc (suc (suc (suc (suc i)))))) a e at is = none-some e at
 
   pub never-both : NeverBoth s0 six
-  never-both = record {
-    both = λ a i j commit rollback. no-rollback j a rollback.event rollback.takes.event rollback.is;
-    once = λ a i j one other. only-commit i a one.event one.takes.event one.is ∙ sym (only-commit j a other.event other.takes.event other.is);
-  }
+  never-both a i j commit rollback = no-rollback j a rollback.event rollback.takes.event rollback.is
+
+  pub commits-once : CommitsOnce s0 six
+  commits-once a i j one other = only-commit i a one.event one.takes.event one.is ∙ sym (only-commit j a other.event other.takes.event other.is)
 
   actor-is : (i : ℕ) (e : Event) → slice_get six i ≡ Some e → e.actor ≡ t.actor
   actor-is zero e at = cc

@@ -1,14 +1,13 @@
 -- What is so of each run: its history, its log, and what its documents resolve to at each moment.
 use Rattle.std.specs.Prelude.{◌≡◌, ℕ, ◌+◌, ◌≤◌, List, [], ◌∷◌, length, map, replicate, Option, Some, None}
 use Rattle.cbt_book.specs.declared.book.Book.{Book}
-use Rattle.cbt_model.specs.History.{after, CommitsAt, RollsBackAt, commits_below}
+use Rattle.cbt_model.specs.History.{after}
 use Rattle.cbt_model.specs.Legal.{Terms, IsLegal}
 use Rattle.cbt_model.specs.View.{view}
-use Rattle.cbt_model.specs.declared.events.Event.{Event}
 use Rattle.cbt_model.specs.declared.events.Kept.{Kept}
-use Rattle.cbt_model.specs.declared.states.State.{State}
 use Rattle.cbt_script.specs.Opening.{opening_of}
 use Rattle.cbt_script.specs.declared.script.Script.{Script}
+use Rattle.cbt_core.specs.Laws.{NeverBoth, CommitsOnce}
 use Rattle.cbtx.specs.Committed.{table}
 use Rattle.cbtx.specs.Logs.{committed_log}
 use Rattle.cbtx.specs.declared.still.Ran.{Ran}
@@ -34,15 +33,9 @@ pub record IsInTurn (kept : Kept) : Type 0 where
   pub actors : map (λ e. e.actor) kept.history ≡ replicate (length kept.history) 1
   pub marks : kept.marks ≡ []
 
--- no attempt commits and is rolled back, and none commits at two places
-pub record NeverBoth (s0 : State) (h : List Event) : Type 0 where
-  pub both : (a i j : ℕ) → CommitsAt s0 h a i → RollsBackAt s0 h a j → ⊥
-  pub once : (a i j : ℕ) → CommitsAt s0 h a i → CommitsAt s0 h a j → i ≡ j
-
 -- at every moment each document resolves to what the committed table has
 pub record ShowsTable (script : Script) (book : Book) : Type 0 where
-  pub each : (i : ℕ) → i ≤ length book.kept.history → (doc : List ℕ)
-      → view (after book.kept.opening book.kept.history i) doc ≡ table script book (commits_below book.kept.opening book.kept.history i) doc
+  pub each : (i : ℕ) → i ≤ length book.kept.history → (doc : List ℕ) → view (after book.kept.opening book.kept.history i) doc ≡ table script book i doc
 
 -- the log of the one client, and no other
 pub record HasCommitted (book : Book) : Type 0 where
@@ -56,6 +49,7 @@ pub record IsRunOf (script : Script) (book : Book) : Type 0 where
   pub in_turn : IsInTurn book.kept
   pub log : HasCommitted book
   pub never_both : NeverBoth book.kept.opening book.kept.history
+  pub commits_once : CommitsOnce book.kept.opening book.kept.history
   pub documents : ShowsTable script book
 
 -- it is so of the script and the book of a run, where they are there

@@ -3,8 +3,9 @@
 ghost use Rattle.std.specs.Prelude.{◌≡◌, ◌<◌, false, true, None, is_some};
 ghost use Rattle.std.specs.Io.KnownBytes.{Appends, Keeps};
 ghost use Rattle.cbt_base.specs.Causes.{Rose};
+ghost use Rattle.cbt_core.specs.Laws.{NeverBoth, CommitsOnce};
 ghost use Rattle.cbt_script.specs.Opening.{opening_of};
-ghost use Rattle.cbtx.specs.Headline.{IsInTurn, IsLegalFor, IsRunOf, HasCommitted, NeverBoth, ShowsTable, WhereRan};
+ghost use Rattle.cbtx.specs.Headline.{IsInTurn, IsLegalFor, IsRunOf, HasCommitted, ShowsTable, WhereRan};
 ghost use Rattle.cbtx.specs.Statuses.{IsCut, IsNotBuilt, IsReported, IsScriptRead, IsWritten, refused_line, text_due, usage_line};
 ghost use Rattle.cbtx.specs.Words.{is_sim};
 
@@ -90,9 +91,10 @@ pub fn still<S: Source, K: Sink, C: Clock>(
     ensures in_turn { WhereRan result (λ script book. IsInTurn book.kept) }
     ensures log { WhereRan result (λ script book. HasCommitted book) }
 
-    // In this history no attempt both commits and is rolled back, and at every moment each document resolves to what the committed
-    // write sets make of it.
+    // In this history no attempt both commits and is rolled back, none commits twice, and at every moment each document resolves to what
+    // the committed write sets make of it.
     ensures never_both { WhereRan result (λ script book. NeverBoth book.kept.opening book.kept.history) }
+    ensures commits_once { WhereRan result (λ script book. CommitsOnce book.kept.opening book.kept.history) }
     ensures documents { WhereRan result (λ script book. ShowsTable script book) }
 {
     if is_sim(words) {

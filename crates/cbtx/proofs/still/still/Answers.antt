@@ -14,3 +14,6 @@ returns-then-is_sim-clause-log g c script book s b = (c.sim.ensures.run script b
 
 pub returns-then-is_sim-clause-never_both : goal.returns-then-is_sim-clause-never_both
 returns-then-is_sim-clause-never_both g c script book s b = (c.sim.ensures.run script book s b).never_both
+
+pub returns-then-is_sim-clause-commits_once : goal.returns-then-is_sim-clause-commits_once
+returns-then-is_sim-clause-commits_once g c script book s b = (c.sim.ensures.run script book s b).commits_once
