@@ -116,6 +116,14 @@ ended-all step_now first count actors all ended number = choice (asks step_now f
     choice true asking = let at = asks-within step_now first actors number asking in ended number (omega arith)
     choice false still = still
 
+-- nor does a number below the list
+pub ended-below : {A : Type 0} (step_now : A → Option Step) (first : ℕ) (actors : List A) (number : ℕ) → number < first → asks step_now first actors number ≡ false
+ended-below step_now first actors number low = choice (asks step_now first actors number) refl
+  where
+    choice : (b : Bool) → asks step_now first actors number ≡ b → asks step_now first actors number ≡ false
+    choice true asking = absurd (let at = (asks-within step_now first actors number asking).0 in omega arith)
+    choice false still = still
+
 -- a turn as a visit
 pub visit-of_turn : (made : Bool) (number : ℕ) (old new : List ℕ) (before after : Bool)
     → MatchBool made (Called number old new before) (Idle old new after) → Visits number (Some 1) old new before after

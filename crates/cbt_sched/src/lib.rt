@@ -2,6 +2,7 @@
 #![tactic(auto)]
 
 mod driver;
+mod going;
 mod items;
 mod rounds;
 mod stops;

@@ -4,24 +4,29 @@ ghost use Rattle.std.specs.Prelude.{◌≡◌, ℕ, suc, ◌+◌, ◌^◌, ◌<�
 ghost use Rattle.std.specs.List.{range_with_len};
 ghost use Rattle.cbt_model.specs.History.{own};
 ghost use Rattle.cbt_sched.specs.Driving.{AllStand, Agrees, GoesOn, InRound, asks};
+ghost use Rattle.cbt_sched.specs.Positions.{LeadsOn};
 ghost use Rattle.cbt_sched.specs.Turns.{callers, calls_of, left_after, rounds};
 
+use crate::going::Going;
 use crate::stops::first_stop;
 use crate::visits::make_call;
 use cbt_base::List;
 use cbt_model::{Actor, Node};
 use std::alloc::Global;
 
-/// Gives each actor one turn, by rising number. Answers whether any of them called.
+/// Gives each actor that may go on one turn, by rising number. Answers whether any of them called.
 fn one_round<N: Node, A: Actor>(
     alloc: Global,
     node: &mut N,
     first: u32,
     actors: &mut List<A>,
     stops: &List<(u32, u64)>,
+    going: &mut Going,
     refused: &mut bool,
 ) -> bool
-    requires { first + length actors.old < 2 ^ 32 }
+    requires numbers { first + length actors.old < 2 ^ 32 }
+    requires going { LeadsOn first (length actors.old) going.old.next (asks A.step_now first actors.old) }
+    ensures going { LeadsOn first (length actors.old) going.new.next (asks A.step_now first actors.new) }
     ensures node { GoesOn N.opening N.history N.terms N.reads_by node.old node.new }
     ensures marks { N.marks node.new ≡ N.marks node.old }
     ensures length { length actors.new ≡ length actors.old }
@@ -40,12 +45,19 @@ fn one_round<N: Node, A: Actor>(
     ensures refused { refused.new ≡ false → refused.old ≡ false }
 {
     let mut called = false;
-    for place in 0..actors.len() {
+    let mut last = 0;
+    let mut at = going.after(0);
+    while at <= actors.len() {
+        let place = at - 1;
         let number = first + place as u32;
         let stop = first_stop(stops, number);
         if make_call(alloc, node, number, stop, actors.at_mut(place), refused) {
             called = true;
+            last = at;
+        } else {
+            going.pass_over(last, at);
         }
+        at = going.after(at);
     }
     called
 }
@@ -77,5 +89,6 @@ pub fn take_turns<N: Node, A: Actor>(
     ensures ended { (number : ℕ) → asks A.step_now first actors.new number ≡ false }
     ensures refused { refused.new ≡ false → refused.old ≡ false }
 {
-    while one_round(alloc, node, first, actors, stops, refused) {}
+    let mut going = Going::all(alloc, actors.len());
+    while one_round(alloc, node, first, actors, stops, &mut going, refused) {}
 }

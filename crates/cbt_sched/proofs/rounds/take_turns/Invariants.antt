@@ -1,11 +1,13 @@
 use Rattle.std.proofs.Common.{◌≡◌, ℕ, ◌+◌, ◌<◌, ◌≤◌, ◌⊎◌, false, List, length, sum_by}
 use Rattle.cbt_model.specs.History.{own}
 use Rattle.cbt_sched.specs.Driving.{AllStand, GoesOn, InRound, asks}
+use Rattle.cbt_sched.specs.Positions.{LeadsOn}
 use Rattle.cbt_sched.specs.Turns.{callers}
 use Rattle.cbt_sched.proofs.rounds.take_turns.Given as goal
 
 abbrev pub invariant-loop-alloc : goal.invariant-loop-alloc
 invariant-loop-alloc g l = record {
+  going : LeadsOn l.first (length l.initial.actors) l.going.next (asks g.A.Actor.step_now l.first l.actors);
   node : GoesOn g.N.Node.opening g.N.Node.history g.N.Node.terms g.N.Node.reads_by l.initial.node l.node;
   marks : g.N.Node.marks l.node ≡ g.N.Node.marks l.initial.node;
   same_length : length l.actors ≡ length l.initial.actors;
