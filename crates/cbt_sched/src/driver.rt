@@ -21,8 +21,8 @@ use std::alloc::Global;
 /// the list, and items for actors that have ended or are stopped, are passed over.
 ///
 /// Answers whether memory was refused. An actor that found none is then stopped, and the mark of an
-/// `Ahead` that found none is missing. The driver takes no memory of its own: `alloc` is for the
-/// actors.
+/// `Ahead` that found none is missing. The driver itself needs no memory: a table that spares it
+/// actors that have ended is left short where there is none.
 pub fn drive_in_order<N: Node, A: Actor>(
     alloc: Global,
     node: &mut N,
