@@ -1,5 +1,5 @@
 -- What a call, a mark and a beginning leave of the facts that a node keeps.
-use Rattle.std.proofs.Common.{◌≡◌, ◌≢◌, ℕ, zero, suc, ◌+◌, ◌-◌, ◌*◌, ◌^◌, ◌<◌, ◌≤◌, min, Bool, true, false, cond, nat_eq, nat_le, if◌then◌else◌, List, [], ◌∷◌, ◌++◌, length, Option, Some, None, refl, sym, ap, ◌∙◌, subst, arith, slice_get}
+use Rattle.std.proofs.Common.{◌≡◌, ◌≢◌, ℕ, suc, ◌+◌, ◌-◌, ◌^◌, ◌<◌, ◌≤◌, Bool, true, false, cond, nat_eq, nat_le, if◌then◌else◌, List, [], ◌∷◌, ◌++◌, length, Option, Some, None, refl, sym, ap, ◌∙◌, subst, arith, slice_get}
 use Rattle.std.proofs.lemmas.Grind.{common_steps}
 use Rattle.cbt_base.specs.Clock.{clock_of, held, ReadsNext}
 use Rattle.cbt_model.specs.Faults.{fate_of}
@@ -11,7 +11,7 @@ use Rattle.cbt_model.specs.declared.events.Mark.{Mark}
 use Rattle.cbt_model.specs.declared.states.State.{State}
 use Rattle.cbt_model.specs.declared.steps.Reply.{Reply}
 use Rattle.cbt_model.proofs.Longer.{after-whole, reply_at-next, calls_below-next, length-next, get-last}
-use Rattle.cbt_model.proofs.Terms.{readings-next, keeps-next, readings-marked, keeps-marked, keeps-none}
+use Rattle.cbt_model.proofs.Terms.{readings-next, keeps-next, keeps-none}
 use Rattle.cbt_plain.specs.Counts.{count_of}
 use Rattle.cbt_plain.specs.Readings.{ReadsBy, waiting}
 

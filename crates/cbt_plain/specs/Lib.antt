@@ -1,2 +1,3 @@
 pub mod Readings
 pub mod Counts
+pub mod ReadThenStage

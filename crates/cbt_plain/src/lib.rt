@@ -10,4 +10,6 @@ pub use outcomes::perform;
 pub use plain::Plain;
 
 #[cfg(test)]
+mod stager;
+#[cfg(test)]
 mod tests;

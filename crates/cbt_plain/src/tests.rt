@@ -1,12 +1,13 @@
 //! Runs of the typed node: fates, readings and marks, and many calls.
 
-ghost use Rattle.std.specs.Prelude.{◌≤◌};
+ghost use Rattle.std.specs.Prelude.{◌≡◌, ◌≤◌, [], IfOk};
 
 use crate::Plain;
+use crate::stager::{Stager, drive};
 use cbt_base::{Clock, DocId, Id, List, ListClock, Map, NoMemory, StepClock};
 use cbt_json::Json;
 use cbt_model::{
-    Answer, Expect, Fate, Fault, Faults, Node, OpKind, Reply, Stage, State, Step, step_fits,
+    Actor, Answer, Expect, Fate, Fault, Faults, Node, OpKind, Reply, Stage, State, Step, step_fits,
 };
 use std::alloc::Global;
 use std::process::Abort;
@@ -18,7 +19,9 @@ fn empty_node<C: Clock>(
     faults: Faults,
     line: Option<(u64, u64)>,
     clock: C,
-) -> Result<Plain<C>, NoMemory> {
+) -> Result<Plain<C>, NoMemory>
+    ensures { IfOk result (λ node. ⟦<Plain<C> as Node>⟧.history node ≡ []) }
+{
     let opening = State {
         last: 0,
         docs: Map::new(alloc),
@@ -171,6 +174,41 @@ fn readings_of_a_clock(rt: HostRuntime) -> Result<(), Fail> {
     assert_eq!(rt; kept.history.len(), want.len());
     for (event, reading) in kept.history.iter().zip(want) {
         assert_eq!(rt; event.reading, reading);
+    }
+    Ok(())
+}
+
+#[test]
+fn an_actor_reads_and_stages(rt: HostRuntime) -> Result<(), Fail> {
+    let alloc = rt.alloc();
+    let mut node = empty_node(
+        alloc,
+        Faults::new(alloc),
+        Some((1000, 1)),
+        StepClock { next: 0, step: 0 },
+    )?;
+    let create = stage_new(alloc, DocId::new(alloc, "a")?);
+    assert!(rt; step_fits(&create));
+    node.call(2, create)?;
+    let mut stager = Stager {
+        doc: DocId::new(alloc, "a")?,
+        stage: Stage {
+            attempt: attempt(2),
+            atr: 12,
+            kind: OpKind::Remove,
+            content: None,
+        },
+        seen: None,
+        made: 0,
+        stopped: false,
+    };
+    drive(alloc, &mut node, 1, &mut stager)?;
+    assert_eq!(rt; stager.calls(), 2);
+    let want = [2, 1, 1];
+    let kept = node.finish();
+    assert_eq!(rt; kept.history.len(), want.len());
+    for (event, actor) in kept.history.iter().zip(want) {
+        assert_eq!(rt; event.actor, actor);
     }
     Ok(())
 }

@@ -1,4 +1,4 @@
-use Rattle.std.proofs.Common.{◌≡◌, ◌+◌, ◌≤◌, length, sym, ap, ◌∙◌, arith, refl}
+use Rattle.std.proofs.Common.{length, sym, ap, ◌∙◌, arith}
 use Rattle.cbt_base.specs.Clock.{held}
 use Rattle.cbt_plain.specs.Counts.{count_of}
 use Rattle.cbt_model.specs.History.{after}

@@ -1,4 +1,4 @@
-use Rattle.std.proofs.Common.{◌≡◌, sym, ap, ◌∙◌, subst, arith}
+use Rattle.std.proofs.Common.{sym, subst, arith}
 use Rattle.cbt_model.specs.Legal.{KeepsTerms, AreReadings}
 use Rattle.cbt_model.proofs.Terms.{keeps-marked, readings-marked}
 use Rattle.cbt_plain.proofs.Calls.{marked-next}

@@ -1,4 +1,4 @@
-use Rattle.std.proofs.Common.{◌≡◌, ℕ, suc, ◌+◌, ◌^◌, ◌<◌, ◌≤◌, List, [], ◌∷◌, ◌++◌, length, Some, None, unwrap_or, sym, ap, ◌∙◌, arith, slice_get}
+use Rattle.std.proofs.Common.{◌≡◌, suc, ◌+◌, List, length, unwrap_or, sym, ap, ◌∙◌, arith}
 use Rattle.cbt_base.specs.Clock.{held, ms_of}
 use Rattle.cbt_model.specs.Faults.{fate_of}
 use Rattle.cbt_model.specs.Fitting.{fits, step_fits}

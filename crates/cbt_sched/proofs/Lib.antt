@@ -1,0 +1,10 @@
+pub mod Actors
+pub mod Agreeing
+pub mod Calling
+pub mod Counting
+pub mod Ending
+pub mod Following
+pub mod Leading
+pub mod Nodes
+pub mod Rounding
+pub mod Visiting

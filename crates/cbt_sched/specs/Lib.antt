@@ -1,0 +1,4 @@
+pub mod Driving
+pub mod Positions
+pub mod Stopping
+pub mod Turns

@@ -1,0 +1,18 @@
+//! Drives actors over a node in one thread, in a stated order.
+#![tactic(auto)]
+
+mod driver;
+mod going;
+mod items;
+mod rounds;
+mod stops;
+mod visits;
+
+pub use driver::drive_in_order;
+
+#[cfg(test)]
+mod refusing;
+#[cfg(test)]
+mod tests;
+#[cfg(test)]
+mod workers;
