@@ -1,0 +1,5 @@
+pub mod Quotes
+pub mod Shorter
+pub mod Digits
+pub mod Names
+pub mod Exits

@@ -1,0 +1,3 @@
+pub mod PathLimits
+pub mod Paths
+pub mod Readings
