@@ -3,3 +3,5 @@ pub mod Shorter
 pub mod Digits
 pub mod Names
 pub mod Exits
+pub mod Seats
+pub mod Inside

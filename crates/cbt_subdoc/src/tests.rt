@@ -1,1 +1,2 @@
+mod looks;
 mod paths;
