@@ -5,3 +5,5 @@ pub mod Names
 pub mod Exits
 pub mod Seats
 pub mod Inside
+pub mod Alike
+pub mod Slots

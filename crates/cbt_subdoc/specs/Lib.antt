@@ -3,3 +3,7 @@ pub mod Paths
 pub mod Readings
 pub mod Members
 pub mod Reach
+pub mod Values
+pub mod Edits
+pub mod Fits
+pub mod Along

@@ -1,14 +1,21 @@
 //! Paths, look-ups and changes in one JSON document.
 #![tactic(auto)]
 
+mod along;
+mod changes;
+mod edits;
 mod looks;
 mod members;
 mod parsing;
 mod path;
 mod reaching;
+mod values;
 
+pub use changes::{Mut, MutFault, MutOp, MutValue, mut_fits};
+pub use edits::Refusal;
 pub use looks::{Look, LookAnswer, lookup};
 pub use path::{Part, Path, PathFault};
+pub use values::macro_text;
 
 #[cfg(test)]
 mod tests;
