@@ -7,3 +7,4 @@ pub mod Seats
 pub mod Inside
 pub mod Alike
 pub mod Slots
+pub mod Keeps

@@ -1,9 +1,26 @@
 //! Changes of a document.
-ghost use Rattle.std.specs.Prelude.{◌≡◌};
+ghost use Rattle.std.specs.Prelude.{◌≡◌, ◌⊎◌, All, IsTrue, Ok, Err, IfOk, IfErr, OnOk, OnErr};
+ghost use Rattle.cbt_json.specs.Rules.{IsJson};
+ghost use Rattle.cbt_subdoc.specs.declared.changes.MutFault.TheVariants.{NoMemory as no_memory};
 ghost use Rattle.cbt_subdoc.specs.Fits.{mut_fits};
+ghost use Rattle.cbt_subdoc.specs.Edits.{Does};
+ghost use Rattle.cbt_subdoc.specs.Along.{changed, fault_at, is_senseless, mutated};
 
-use crate::path::Path;
-use cbt_json::Json;
+use crate::along::{change_tree, leads_to_place};
+use crate::edits::{Edit, Refusal, is_list_or_object};
+use crate::path::{Part, Path};
+use crate::values::tree_of_value;
+use cbt_base::{Duplicate, NoMemory};
+use cbt_json::{Json, Tree};
+use std::alloc::Global;
+use std::error::Error;
+use std::fmt;
+
+/// The most changes of a call.
+const MAX_CHANGES: usize = 16;
+
+/// The most levels of a document.
+const MAX_LEVELS: u32 = 127;
 
 /// What a change does at the end of its path.
 #[derive(Clone, Copy, Debug, PartialEq, Eq)]
@@ -85,3 +102,101 @@ pub fn mut_fits(change: &Mut) -> bool
         },
     }
 }
+
+/// The tree after one change, at the CAS of its call. What is refused is gone with the tree, so a
+/// caller that keeps it works on a copy.
+pub fn apply_change(alloc: Global, tree: Tree, change: &Mut, cas: u64) -> Result<Tree, Refusal>
+    ensures answer { Does result (changed cas change.now tree) }
+    ensures rules { IsJson tree → IfOk result IsJson }
+{
+    let value = tree_of_value(alloc, &change.value, cas)?;
+    if is_senseless(change.op, change.path.parts(), &value) {
+        return Err(Refusal::PathMismatch);
+    }
+    let edit = Edit {
+        op: change.op,
+        parents: change.parents,
+        value,
+    };
+    let after = change_tree(alloc, tree, change.path.parts(), edit)?;
+    if after.has_levels_within(MAX_LEVELS) {
+        Ok(after)
+    } else {
+        Err(Refusal::TooDeep)
+    }
+}
+
+// Whether a change is refused before its way is looked at.
+fn is_senseless(op: MutOp, path: &[Part], value: &Tree) -> bool
+    ensures { result ≡ is_senseless op path.now value.now }
+{
+    match op {
+        MutOp::Add | MutOp::Upsert => leads_to_place(path),
+        MutOp::AddUnique => is_list_or_object(value),
+        _ => false,
+    }
+}
+
+/// Makes a call's changes in order, each on what the ones before it made. A refused call leaves the
+/// document as it was.
+pub fn mutate(alloc: Global, tree: &mut Json, changes: &[Mut], cas: u64) -> Result<(), MutFault>
+    requires { All (λ change. IsTrue (mut_fits change)) changes.now }
+    ensures ok { OnOk result (mutated cas changes.now tree.old ≡ Ok tree.new) }
+    ensures refused { IfErr result (λ fault. (mutated cas changes.now tree.old ≡ Err fault) ⊎ (fault ≡ MutFault.NoMemory)) }
+    ensures unchanged { OnErr result (tree.new ≡ tree.old) }
+{
+    if changes.len() > MAX_CHANGES {
+        return Err(MutFault::TooManyPaths {
+            n: changes.len() as u64,
+        });
+    }
+    let mut work = tree.tree().copy(alloc)?;
+    for (i, change) in changes.iter().enumerate() {
+        match apply_change(alloc, work, change, cas) {
+            Ok(after) => work = after,
+            Err(refusal) => return Err(refusal.at(i as u64)),
+        }
+    }
+    *tree = Json::of(work).unwrap();
+    Ok(())
+}
+
+impl Refusal {
+    /// The fault of a call whose change at this place, from 0, is refused.
+    pub fn at(self, i: u64) -> MutFault
+        ensures { result ≡ fault_at i self }
+    {
+        match self {
+            Refusal::PathNotFound => MutFault::PathNotFound { i },
+            Refusal::PathExists => MutFault::PathExists { i },
+            Refusal::PathMismatch => MutFault::PathMismatch { i },
+            Refusal::CounterRange => MutFault::CounterRange { i },
+            Refusal::TooDeep => MutFault::TooDeep { i },
+            Refusal::NoMemory => MutFault::NoMemory,
+        }
+    }
+}
+
+impl From<NoMemory> for MutFault {
+    ghost from_gives = { λ _ fault. fault ≡ no_memory };
+
+    fn from(_refused: NoMemory) -> MutFault {
+        MutFault::NoMemory
+    }
+}
+
+impl fmt::Display for MutFault {
+    fn fmt<W: fmt::Write>(&self, f: &mut fmt::Formatter<W>) -> fmt::Result {
+        match self {
+            MutFault::TooManyPaths { n } => write!(f, "a call has at most 16 paths, not {n}"),
+            MutFault::PathNotFound { i } => write!(f, "change {i}: the path reaches nothing"),
+            MutFault::PathExists { i } => write!(f, "change {i}: the value is there already"),
+            MutFault::PathMismatch { i } => write!(f, "change {i}: a value is of another kind"),
+            MutFault::CounterRange { i } => write!(f, "change {i}: the counter leaves its range"),
+            MutFault::TooDeep { i } => write!(f, "change {i}: more than 127 levels"),
+            MutFault::NoMemory => write!(f, "out of memory"),
+        }
+    }
+}
+
+impl Error for MutFault {}

@@ -11,7 +11,7 @@ mod path;
 mod reaching;
 mod values;
 
-pub use changes::{Mut, MutFault, MutOp, MutValue, mut_fits};
+pub use changes::{Mut, MutFault, MutOp, MutValue, apply_change, mut_fits, mutate};
 pub use edits::Refusal;
 pub use looks::{Look, LookAnswer, lookup};
 pub use path::{Part, Path, PathFault};

@@ -19,11 +19,7 @@ pub fn macro_text(alloc: Global, cas: u64) -> Result<Text, NoMemory>
 }
 
 /// The tree of a change's value, at the CAS of its call. The number of a counter is a tree too.
-pub(crate) fn tree_of_value(
-    alloc: Global,
-    value: &MutValue,
-    cas: u64,
-) -> Result<Tree, NoMemory>
+pub(crate) fn tree_of_value(alloc: Global, value: &MutValue, cas: u64) -> Result<Tree, NoMemory>
     ensures value { IfOk result (λ tree. tree ≡ value_of cas value.now) }
     ensures rules { IfOk result IsJson }
 {
