@@ -1,5 +1,5 @@
 -- The test whether two trees are the same is the one of cbt_json's definitions.
-use Rattle.std.proofs.Common.{◌≡◌, Bool, true, false, IsTrue, refl, sym, ◌∙◌}
+use Rattle.std.proofs.Common.{◌≡◌, Bool, true, false, IsTrue, refl, sym}
 use Rattle.std.specs.Prelude.{◌↔◌}
 use Rattle.cbt_json.specs.declared.tree.Tree.{Tree}
 use Rattle.cbt_json.specs.Same.{tree_eq}

@@ -1,5 +1,5 @@
 -- The exit of a reading that stopped in a part of it.
-use Rattle.std.proofs.Common.{◌≡◌, ℕ, Result, Ok, Err, sym, subst}
+use Rattle.std.proofs.Common.{◌≡◌, ℕ, Result, Err, sym, subst}
 use Rattle.cbt_subdoc.specs.declared.parsing.Stop.{Stop}
 use Rattle.cbt_subdoc.specs.declared.parsing.Stop.TheVariants.{Left, NoMemory}
 use Rattle.cbt_subdoc.specs.Readings.{Reads}

@@ -1,5 +1,5 @@
 -- A change keeps the numbers in their range and the names rising, at every level.
-use Rattle.std.proofs.Common.{◌≡◌, ℕ, ℤ, pos, negsuc, zero, suc, ◌+◌, ◌-◌, ◌<◌, ◌^◌, Bool, true, false, cond, ◌&&◌, List, [], ◌∷◌, ◌++◌, length, take, drop, Option, Some, None, Result, Ok, Err, refl, sym, ap, ◌∙◌, subst, arith, ltb}
+use Rattle.std.proofs.Common.{◌≡◌, ℕ, ℤ, pos, negsuc, zero, suc, ◌-◌, ◌^◌, Bool, true, false, cond, ◌&&◌, List, [], ◌∷◌, ◌++◌, length, Some, None, Result, Ok, Err, refl, ap, ◌∙◌, subst, arith}
 use Rattle.std.specs.Prelude.{slice_get, slice_set, remove, nat_lt, ◌+ℤ◌}
 use Rattle.std.specs.declared.cmp.Ordering.{Ordering}
 use Rattle.std.specs.declared.cmp.Ordering.TheVariants.{Less, Equal, Greater}
@@ -11,7 +11,7 @@ use Rattle.serde_json.specs.Data.{Data}
 use Rattle.cbt_json.specs.declared.tree.Tree.{Tree, out-Tree, map-Tree}
 use Rattle.cbt_json.specs.declared.tree.Tree.TheOpen.{Tree-F}
 use Rattle.cbt_json.specs.declared.tree.Tree.TheVariants as tree
-use Rattle.cbt_json.specs.Rules.{is_in_range, rises_from, names_rise, is_regular, items_are_regular, members_are_regular}
+use Rattle.cbt_json.specs.Rules.{rises_from, names_rise, is_regular, items_are_regular, members_are_regular}
 use Rattle.cbt_json.specs.Trees.{data_of, data_step, items_data, members_data}
 use Rattle.cbt_json.proofs.Views.{data_of-Whole, data_of-List, data_of-Object}
 use Rattle.cbt_subdoc.specs.declared.path.Part.{Part}
@@ -22,7 +22,7 @@ use Rattle.cbt_subdoc.specs.declared.edits.Edit.{Edit}
 use Rattle.cbt_subdoc.specs.declared.edits.Refusal.{Refusal}
 use Rattle.cbt_subdoc.specs.declared.edits.Refusal.TheVariants.{PathNotFound, PathExists, PathMismatch, CounterRange}
 use Rattle.cbt_subdoc.specs.Members.{Members, name_cmp, member, with_member, without_member}
-use Rattle.cbt_subdoc.specs.Edits.{Slot, added, replaced, counter, counted_on, counted, in_range, in_counter_range, whole, in_slot, items_of, list_in, with_item, has_container, has_item, list_slot, onto, edited_by, edited}
+use Rattle.cbt_subdoc.specs.Edits.{Slot, added, replaced, counter, counted_on, counted, in_counter_range, whole, in_slot, items_of, list_in, with_item, has_container, has_item, list_slot, onto, edited_by}
 use Rattle.cbt_subdoc.specs.Along.{with_slot, in_object, with_item_at, in_list, item_changed, part_changed, is_name, slot_changed, tree_changed}
 use Rattle.cbt_subdoc.proofs.Inside.{opened, item_inside, member_inside}
 

@@ -8,3 +8,4 @@ pub mod Inside
 pub mod Alike
 pub mod Slots
 pub mod Keeps
+pub mod Levels

@@ -1,10 +1,10 @@
 -- What is read of a path's text is a front of it that has bytes.
-use Rattle.std.proofs.Common.{◌≡◌, ℕ, zero, suc, ◌+◌, ◌-◌, ◌*◌, ◌<◌, ◌≤◌, ◌==◌, ◌||◌, ◌&&◌, Bool, true, false, cond, List, [], ◌∷◌, ◌++◌, length, drop, Option, Some, None, Result, Ok, Err, refl, sym, ap, ◌∙◌, arith, append_assoc, append-nil, length-drop}
+use Rattle.std.proofs.Common.{◌≡◌, ℕ, zero, suc, ◌+◌, ◌-◌, ◌*◌, ◌<◌, ◌≤◌, ◌==◌, Bool, true, false, cond, List, [], ◌∷◌, ◌++◌, length, Option, Some, None, Result, Ok, Err, refl, sym, ap, ◌∙◌, arith, append_assoc, append-nil, length-drop}
 use Rattle.std.specs.List.{prefix_len}
 use Rattle.std.specs.Char.{is_ascii_digit}
 use Rattle.cbt_subdoc.specs.declared.path.Part.{Part}
-use Rattle.cbt_subdoc.specs.declared.path.Part.TheVariants.{Name, Place, Last}
-use Rattle.cbt_subdoc.specs.Paths.{Front, stuck, closed, digits, may_follow, last_place, place_at, is_plain, plain_name, prepended, quoted, quoted_name, name_at, next_at, first_at, further, led_by, part_and}
+use Rattle.cbt_subdoc.specs.declared.path.Part.TheVariants.{Place, Last}
+use Rattle.cbt_subdoc.specs.Paths.{Front, closed, digits, may_follow, last_place, place_at, is_plain, plain_name, prepended, quoted, quoted_name, name_at, next_at, first_at, further, led_by, part_and}
 
 -- what a reading leaves is no longer than this
 abbrev pub LeavesAtMost : ℕ → Front → Type 0

@@ -1,5 +1,5 @@
 -- One slot of an object or a list, taken out, changed and put back.
-use Rattle.std.proofs.Common.{◌≡◌, ℕ, zero, suc, ◌+◌, ◌-◌, ◌<◌, ◌≤◌, List, [], ◌∷◌, ◌++◌, length, get_or, take, drop, Option, Some, None, Result, Ok, Err, MatchOption, refl, sym, ap, ◌∙◌, subst, arith}
+use Rattle.std.proofs.Common.{◌≡◌, ℕ, zero, suc, List, [], ◌∷◌, Some, None, Result, Ok, Err, MatchOption, refl, sym, ap, ◌∙◌, subst}
 use Rattle.std.specs.Prelude.{slice_get, slice_set, insert, remove}
 use Rattle.std.proofs.lemmas.Option.{get_or_from_slice_get}
 use Rattle.cbt_json.specs.declared.tree.Tree.{Tree}

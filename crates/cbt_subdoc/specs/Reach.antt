@@ -1,5 +1,5 @@
 -- What a path reaches in a tree, and what a look-up answers.
-use Rattle.std.specs.Prelude.{◌≡◌, ℕ, ◌-◌, List, [], ◌∷◌, length, slice_get, Option, Some, None, Result, Ok, Err}
+use Rattle.std.specs.Prelude.{◌≡◌, ◌-◌, List, [], ◌∷◌, length, slice_get, Option, Some, None, Result, Ok, Err}
 use Rattle.std.specs.Borrow.{Bor}
 use Rattle.cbt_json.specs.declared.tree.Tree.{Tree, out-Tree}
 use Rattle.cbt_json.specs.declared.tree.Tree.TheOpen.{Tree-F}

@@ -1,5 +1,5 @@
 -- How the answer of a function that reads stands to a reading; want of memory is free.
-use Rattle.std.specs.Prelude.{◌≡◌, ℕ, List, Option, Some, None, Result, Ok, Err}
+use Rattle.std.specs.Prelude.{◌≡◌, ℕ, Option, Some, None, Result, Ok, Err}
 use Rattle.cbt_subdoc.specs.declared.parsing.Stop.{Stop}
 use Rattle.cbt_subdoc.specs.declared.parsing.Stop.TheVariants.{Left, NoMemory}
 

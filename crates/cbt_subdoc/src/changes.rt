@@ -103,27 +103,33 @@ pub fn mut_fits(change: &Mut) -> bool
     }
 }
 
-/// The tree after one change, at the CAS of its call. What is refused is gone with the tree, so a
-/// caller that keeps it works on a copy.
+/// The tree of a JSON value after one change, at the CAS of its call. What is refused is gone with
+/// the tree, so a caller that keeps it works on a copy.
 pub fn apply_change(alloc: Global, tree: Tree, change: &Mut, cas: u64) -> Result<Tree, Refusal>
+    requires { IsJson tree }
     ensures answer { Does result (changed cas change.now tree) }
-    ensures rules { IsJson tree → IfOk result IsJson }
+    ensures rules { IfOk result IsJson }
 {
+    let path = change.path.parts();
     let value = tree_of_value(alloc, &change.value, cas)?;
-    if is_senseless(change.op, change.path.parts(), &value) {
+    if is_senseless(change.op, path, &value) {
         return Err(Refusal::PathMismatch);
     }
+    // A shallow value makes no tree too deep, and then the levels of the whole need not be counted.
+    let is_shallow = value.has_levels_within(MAX_LEVELS - 1 - path.len() as u32);
     let edit = Edit {
         op: change.op,
         parents: change.parents,
         value,
     };
-    let after = change_tree(alloc, tree, change.path.parts(), edit)?;
-    if after.has_levels_within(MAX_LEVELS) {
-        Ok(after)
-    } else {
-        Err(Refusal::TooDeep)
+    let after = change_tree(alloc, tree, path, edit)?;
+    if is_shallow {
+        return Ok(after);
     }
+    if !after.has_levels_within(MAX_LEVELS) {
+        return Err(Refusal::TooDeep);
+    }
+    Ok(after)
 }
 
 // Whether a change is refused before its way is looked at.

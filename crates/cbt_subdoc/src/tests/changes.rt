@@ -1,5 +1,8 @@
 //! Changes, with the rows of the table of paths and calls.
 
+ghost use Rattle.std.specs.Prelude.{All, IsTrue, IfOk};
+ghost use Rattle.cbt_subdoc.specs.Fits.{mut_fits};
+
 use crate::{Mut, MutFault, MutOp, MutValue, Path, mut_fits, mutate};
 use cbt_base::List;
 use cbt_json::Json;
@@ -33,9 +36,7 @@ fn assert_made(
 ) -> Result<(), Fail> {
     let mut tree = Json::read(alloc, tree)?;
     assert!(rt; mut_fits(&change));
-    let mut changes = List::new(alloc);
-    changes.push(change)?;
-    mutate(alloc, &mut tree, changes.as_slice(), 1000996864)?;
+    mutate(alloc, &mut tree, &[change], 1000996864)?;
     assert_eq!(rt; tree.text(alloc)?.as_str(), expected);
     Ok(())
 }
@@ -51,12 +52,7 @@ fn assert_refused(
     let before = Json::read(alloc, tree)?;
     let mut tree = Json::read(alloc, tree)?;
     assert!(rt; mut_fits(&change));
-    let mut changes = List::new(alloc);
-    changes.push(change)?;
-    assert_eq!(rt;
-        mutate(alloc, &mut tree, changes.as_slice(), 1).err(),
-        Some(fault)
-    );
+    assert_eq!(rt; mutate(alloc, &mut tree, &[change], 1).err(), Some(fault));
     assert!(rt; tree.same(&before));
     Ok(())
 }
@@ -96,11 +92,95 @@ fn rows_of_changes(rt: HostRuntime) -> Result<(), Fail> {
 fn second_change_is_refused(rt: HostRuntime) -> Result<(), Fail> {
     let alloc = rt.alloc();
     let mut tree = Json::read(alloc, TREE)?;
-    let mut changes = List::new(alloc);
-    changes.push(change(alloc, MutOp::Upsert, "x", json(alloc, "1")?)?)?;
-    changes.push(change(alloc, MutOp::Add, "a.b", json(alloc, "1")?)?)?;
-    for change in changes.iter() {
-        assert!(rt; mut_fits(change));
-    }
+    let first = change(alloc, MutOp::Upsert, "x", json(alloc, "1")?)?;
+    let second = change(alloc, MutOp::Add, "a.b", json(alloc, "1")?)?;
+    assert!(rt; mut_fits(&first) && mut_fits(&second));
+    let fault = mutate(alloc, &mut tree, &[first, second], 1).err();
+    assert_eq!(rt; fault, Some(MutFault::PathExists { i: 1 }));
+    assert!(rt; tree.same(&Json::read(alloc, TREE)?));
     Ok(())
+}
+
+#[test]
+fn changes_by_operation(rt: HostRuntime) -> Result<(), Fail> {
+    let alloc = rt.alloc();
+    let tree = b"{\"l\":[],\"n\":9223372036854775807,\"o\":{\"x\":1}}";
+    let add = change(alloc, MutOp::Add, "m", json(alloc, "[]")?)?;
+    assert_made(&rt, alloc, b"{\"z\":0}", add, "{\"m\":[],\"z\":0}")?;
+    let replace = change(alloc, MutOp::Replace, "a.b[-1]", json(alloc, "null")?)?;
+    assert_made(&rt, alloc, TREE, replace, "{\"a\":{\"b\":[1,null]}}")?;
+    let delete = change(alloc, MutOp::Delete, "a.b[0]", MutValue::None)?;
+    assert_made(&rt, alloc, TREE, delete, "{\"a\":{\"b\":[2]}}")?;
+    let delete = change(alloc, MutOp::Delete, "o", MutValue::None)?;
+    assert_made(&rt, alloc, b"{\"o\":1,\"p\":2}", delete, "{\"p\":2}")?;
+    let push = change(alloc, MutOp::PushFirst, "a.b", json(alloc, "0")?)?;
+    assert_made(&rt, alloc, TREE, push, "{\"a\":{\"b\":[0,1,2]}}")?;
+    let unique = change(alloc, MutOp::AddUnique, "a.b", json(alloc, "3")?)?;
+    assert_made(&rt, alloc, TREE, unique, "{\"a\":{\"b\":[1,2,3]}}")?;
+    let last = change(alloc, MutOp::Delete, "l[-1]", MutValue::None)?;
+    assert_refused(&rt, alloc, tree, last, MutFault::PathNotFound { i: 0 })?;
+    let count = change(alloc, MutOp::Counter, "n", MutValue::Delta(1))?;
+    assert_refused(&rt, alloc, tree, count, MutFault::CounterRange { i: 0 })?;
+    let count = change(alloc, MutOp::Counter, "o", MutValue::Delta(1))?;
+    assert_refused(&rt, alloc, tree, count, MutFault::PathMismatch { i: 0 })?;
+    let place = change(alloc, MutOp::Upsert, "none[0]", json(alloc, "1")?)?;
+    assert_refused(&rt, alloc, tree, place, MutFault::PathMismatch { i: 0 })?;
+    let inner = change(alloc, MutOp::AddUnique, "none", json(alloc, "[]")?)?;
+    assert_refused(&rt, alloc, tree, inner, MutFault::PathMismatch { i: 0 })?;
+    Ok(())
+}
+
+#[test]
+fn changes_that_make_what_is_missing(rt: HostRuntime) -> Result<(), Fail> {
+    let alloc = rt.alloc();
+    let count = change(alloc, MutOp::Counter, "n", MutValue::Delta(-2))?;
+    assert_made(&rt, alloc, b"{}", count, "{\"n\":-2}")?;
+    let mut push = change(alloc, MutOp::PushLast, "p.q", json(alloc, "1")?)?;
+    push.parents = true;
+    assert_made(&rt, alloc, b"{}", push, "{\"p\":{\"q\":[1]}}")?;
+    let mut push = change(alloc, MutOp::PushLast, "p.q[0]", json(alloc, "1")?)?;
+    push.parents = true;
+    assert_refused(&rt, alloc, b"{}", push, MutFault::PathNotFound { i: 0 })?;
+    let mut delete = change(alloc, MutOp::Delete, "p.q", MutValue::None)?;
+    delete.parents = true;
+    assert_refused(&rt, alloc, b"{}", delete, MutFault::PathNotFound { i: 0 })?;
+    Ok(())
+}
+
+// The same change, so many times.
+fn counts(alloc: Global, n: usize) -> Result<List<Mut>, Fail>
+    ensures { IfOk result (λ changes. All (λ change. IsTrue (mut_fits change)) changes) }
+{
+    let mut changes = List::new(alloc);
+    for _ in 0..n {
+        let count = change(alloc, MutOp::Counter, "n", MutValue::Delta(1))?;
+        if mut_fits(&count) {
+            changes.push(count)?;
+        }
+    }
+    Ok(changes)
+}
+
+#[test]
+fn path_limits(rt: HostRuntime) -> Result<(), Fail> {
+    let alloc = rt.alloc();
+    let mut tree = Json::read(alloc, b"{}")?;
+    let most = counts(alloc, 16)?;
+    mutate(alloc, &mut tree, most.as_slice(), 1)?;
+    assert_eq!(rt; tree.text(alloc)?.as_str(), "{\"n\":16}");
+    let more = counts(alloc, 17)?;
+    let fault = mutate(alloc, &mut tree, more.as_slice(), 1).err();
+    assert_eq!(rt; fault, Some(MutFault::TooManyPaths { n: 17 }));
+    assert_eq!(rt; tree.text(alloc)?.as_str(), "{\"n\":16}");
+    Ok(())
+}
+
+#[test]
+fn levels_of_a_change(rt: HostRuntime) -> Result<(), Fail> {
+    let alloc = rt.alloc();
+    let mut deep = vec![in alloc; b'['; 127]?;
+    deep.extend_from_slice(&vec![in alloc; b']'; 127]?)?;
+    let value = MutValue::Json(Json::read(alloc, &deep)?);
+    let upsert = change(alloc, MutOp::Upsert, "d", value)?;
+    assert_refused(&rt, alloc, b"{}", upsert, MutFault::TooDeep { i: 0 })
 }

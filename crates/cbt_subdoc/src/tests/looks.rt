@@ -4,15 +4,17 @@ use crate::{Look, LookAnswer, Path, lookup};
 use cbt_base::List;
 use cbt_json::Json;
 use std::alloc::Global;
+use std::process::Abort;
 use std::test::Fail;
 
 const TREE: &[u8] = b"{\"a\":{\"b\":[1,2]}}";
 
 // The answers as a text: `+` for a value that is there, a count, `-` for none, `x` for a mismatch.
-fn answers(alloc: Global, tree: &[u8], looks: &List<Look>) -> Result<String, Fail> {
+fn answers(rt: &impl Abort, alloc: Global, tree: &[u8], looks: &[Look]) -> Result<String, Fail> {
+    assert!(rt; looks.len() <= 16);
     let tree = Json::read(alloc, tree)?;
     let mut text = String::new(alloc);
-    for answer in lookup(alloc, &tree, looks.as_slice())?.iter() {
+    for answer in lookup(alloc, &tree, looks)?.iter() {
         match answer {
             LookAnswer::Yes => text.push_str("+ ")?,
             LookAnswer::Found(value) => {
@@ -35,7 +37,10 @@ fn rows_of_looks(rt: HostRuntime) -> Result<(), Fail> {
     looks.push(Look::Count(Path::parse(alloc, "a.b")?))?;
     looks.push(Look::Get(Path::parse(alloc, "a.c")?))?;
     looks.push(Look::Get(Path::parse(alloc, "a.b.c")?))?;
-    assert_eq!(rt; answers(alloc, TREE, &looks)?.as_str(), "2 2 - x ");
+    assert_eq!(rt;
+        answers(&rt, alloc, TREE, looks.as_slice())?.as_str(),
+        "2 2 - x "
+    );
     Ok(())
 }
 
@@ -54,6 +59,9 @@ fn other_looks(rt: HostRuntime) -> Result<(), Fail> {
     looks.push(Look::Count(Path::parse(alloc, "[0].y")?))?;
     looks.push(Look::Count(Path::parse(alloc, "[0].z")?))?;
     let expected = "+ - x - {\"x\":[],\"y\":3} 2 0 x - ";
-    assert_eq!(rt; answers(alloc, tree, &looks)?.as_str(), expected);
+    assert_eq!(rt;
+        answers(&rt, alloc, tree, looks.as_slice())?.as_str(),
+        expected
+    );
     Ok(())
 }

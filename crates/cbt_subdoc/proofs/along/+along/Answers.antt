@@ -1,9 +1,9 @@
-use Rattle.std.proofs.Common.{◌≡◌, ◌∙◌, ap, sym, Some, None, Err}
+use Rattle.std.proofs.Common.{◌∙◌, ap, sym, Some, None, Err}
 use Rattle.std.proofs.lemmas.Result.{err_from_is_err_and}
 use Rattle.cbt_subdoc.specs.Members.{member, seat}
 use Rattle.cbt_subdoc.specs.Along.{slot_changed, in_object}
 use Rattle.cbt_subdoc.proofs.Seats.{seat-Ok, seat-Err}
-use Rattle.cbt_subdoc.proofs.Slots.{member_put, member_stuck, member_added, member_not_added, item_put, item_stuck, refused_along}
+use Rattle.cbt_subdoc.proofs.Slots.{member_put, member_stuck, member_added, member_not_added, item_put, refused_along}
 use Rattle.cbt_subdoc.proofs.along.+along.Goals as goal
 
 pub change_item-returns : goal.change_item-returns

@@ -1,6 +1,6 @@
-use Rattle.std.proofs.Common.{◌≡◌, ◌<◌, ◌∙◌, ap, sym, refl, length, get_or, arith}
+use Rattle.std.proofs.Common.{◌<◌, ap, refl, length, get_or, arith}
 use Rattle.std.proofs.lemmas.Str.{IsCharBoundary-start}
-use Rattle.cbt_subdoc.proofs.Digits.{boundary-more, step-more, step-closed}
+use Rattle.cbt_subdoc.proofs.Digits.{boundary-more, step-more}
 use Rattle.cbt_subdoc.proofs.parsing.numbered.Goals as goal
 
 pub loop-at-init : goal.loop-at-init

@@ -2,7 +2,7 @@ use Rattle.std.proofs.Common.{◌∙◌, ap, ℕ, List, Bor, Err, rules, arith}
 use Rattle.std.proofs.lemmas.Result.{err_from_is_err_and}
 use Rattle.cbt_subdoc.specs.declared.path.Part.{Part}
 use Rattle.cbt_subdoc.specs.Paths.{next_at, parts_of}
-use Rattle.cbt_subdoc.proofs.Shorter.{StandsBefore, next-shorter, stands-first, stands-next, stands-done, stands-stuck}
+use Rattle.cbt_subdoc.proofs.Shorter.{next-shorter, stands-first, stands-next, stands-done, stands-stuck}
 use Rattle.cbt_subdoc.proofs.Exits.{exits}
 use Rattle.cbt_subdoc.proofs.parsing.parts_of.Goals as goal
 

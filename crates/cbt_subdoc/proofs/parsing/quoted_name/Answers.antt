@@ -1,6 +1,6 @@
-use Rattle.std.proofs.Common.{◌≡◌, ◌≢◌, ◌<◌, ap, sym, length, get_or, arith, rules, lit<, refl}
+use Rattle.std.proofs.Common.{rules, lit<, refl}
 use Rattle.std.proofs.lemmas.Str.Pattern.{split_parts, starts_char}
-use Rattle.cbt_subdoc.proofs.Quotes.{begins, step-two, step-end, step-none}
+use Rattle.cbt_subdoc.proofs.Quotes.{step-two, step-end, step-none}
 use Rattle.cbt_subdoc.proofs.parsing.quoted_name.Goals as goal
 
 pub loop-piece-preserved : goal.loop-piece-preserved
