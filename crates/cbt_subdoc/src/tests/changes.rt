@@ -148,15 +148,14 @@ fn changes_that_make_what_is_missing(rt: HostRuntime) -> Result<(), Fail> {
 }
 
 // The same change, so many times.
-fn counts(alloc: Global, n: usize) -> Result<List<Mut>, Fail>
+fn counts(rt: &impl Abort, alloc: Global, n: usize) -> Result<List<Mut>, Fail>
     ensures { IfOk result (λ changes. All (λ change. IsTrue (mut_fits change)) changes) }
 {
     let mut changes = List::new(alloc);
     for _ in 0..n {
         let count = change(alloc, MutOp::Counter, "n", MutValue::Delta(1))?;
-        if mut_fits(&count) {
-            changes.push(count)?;
-        }
+        assert!(rt; mut_fits(&count));
+        changes.push(count)?;
     }
     Ok(changes)
 }
@@ -165,10 +164,10 @@ fn counts(alloc: Global, n: usize) -> Result<List<Mut>, Fail>
 fn path_limits(rt: HostRuntime) -> Result<(), Fail> {
     let alloc = rt.alloc();
     let mut tree = Json::read(alloc, b"{}")?;
-    let most = counts(alloc, 16)?;
+    let most = counts(&rt, alloc, 16)?;
     mutate(alloc, &mut tree, most.as_slice(), 1)?;
     assert_eq!(rt; tree.text(alloc)?.as_str(), "{\"n\":16}");
-    let more = counts(alloc, 17)?;
+    let more = counts(&rt, alloc, 17)?;
     let fault = mutate(alloc, &mut tree, more.as_slice(), 1).err();
     assert_eq!(rt; fault, Some(MutFault::TooManyPaths { n: 17 }));
     assert_eq!(rt; tree.text(alloc)?.as_str(), "{\"n\":16}");
