@@ -1,6 +1,6 @@
 //! Changes, with the rows of the table of paths and calls.
 
-ghost use Rattle.std.specs.Prelude.{All, IsTrue, IfOk};
+ghost use Rattle.std.specs.Prelude.{◌↔◌, All, IsTrue};
 ghost use Rattle.cbt_subdoc.specs.Fits.{mut_fits};
 
 use crate::{Mut, MutFault, MutOp, MutValue, Path, mut_fits, mutate};
@@ -148,26 +148,30 @@ fn changes_that_make_what_is_missing(rt: HostRuntime) -> Result<(), Fail> {
 }
 
 // The same change, so many times.
-fn counts(rt: &impl Abort, alloc: Global, n: usize) -> Result<List<Mut>, Fail>
-    ensures { IfOk result (λ changes. All (λ change. IsTrue (mut_fits change)) changes) }
-{
+fn counts(alloc: Global, n: usize) -> Result<List<Mut>, Fail> {
     let mut changes = List::new(alloc);
     for _ in 0..n {
-        let count = change(alloc, MutOp::Counter, "n", MutValue::Delta(1))?;
-        assert!(rt; mut_fits(&count));
-        changes.push(count)?;
+        changes.push(change(alloc, MutOp::Counter, "n", MutValue::Delta(1))?)?;
     }
     Ok(changes)
+}
+
+fn all_fit(changes: &[Mut]) -> bool
+    ensures { IsTrue result ↔ All (λ change. IsTrue (mut_fits change)) changes.now }
+{
+    changes.iter().all(|change| mut_fits(change))
 }
 
 #[test]
 fn path_limits(rt: HostRuntime) -> Result<(), Fail> {
     let alloc = rt.alloc();
     let mut tree = Json::read(alloc, b"{}")?;
-    let most = counts(&rt, alloc, 16)?;
+    let most = counts(alloc, 16)?;
+    assert!(rt; all_fit(most.as_slice()));
     mutate(alloc, &mut tree, most.as_slice(), 1)?;
     assert_eq!(rt; tree.text(alloc)?.as_str(), "{\"n\":16}");
-    let more = counts(&rt, alloc, 17)?;
+    let more = counts(alloc, 17)?;
+    assert!(rt; all_fit(more.as_slice()));
     let fault = mutate(alloc, &mut tree, more.as_slice(), 1).err();
     assert_eq!(rt; fault, Some(MutFault::TooManyPaths { n: 17 }));
     assert_eq!(rt; tree.text(alloc)?.as_str(), "{\"n\":16}");
