@@ -27,7 +27,7 @@ fronted-one b (Some x) = refl
 abbrev pub HasNoBacktick : List ℕ → Type 0
 HasNoBacktick text = (i : ℕ) → i < length text → get_or text i 0 ≢ 96
 
-quoted-plain : (b : ℕ) (rest : List ℕ) → b ≢ 96 → quoted (b ∷ rest) ≡ prepended b (quoted rest)
+pub quoted-plain : (b : ℕ) (rest : List ℕ) → b ≢ 96 → quoted (b ∷ rest) ≡ prepended b (quoted rest)
 quoted-plain b [] other = ap (λ t. cond t (Some ([], [])) None) (ne_eqb b 96 other)
 quoted-plain b (c ∷ rest) other =
     ap (λ t. cond t (cond (c == 96) (prepended 96 (quoted rest)) (Some ([], c ∷ rest))) (prepended b (quoted (c ∷ rest)))) (ne_eqb b 96 other)

@@ -7,3 +7,4 @@ pub mod Values
 pub mod Edits
 pub mod Fits
 pub mod Along
+pub mod Written

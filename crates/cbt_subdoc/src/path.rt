@@ -123,7 +123,7 @@ impl Path {
                 }
             }
             Err(Stop::Left(left)) => Err(PathFault::BadAt {
-                at: len.saturating_sub(left) as u64,
+                at: (len - left) as u64,
             }),
             Err(Stop::NoMemory) => Err(PathFault::NoMemory),
         }
