@@ -1,0 +1,5 @@
+pub mod Attributes
+pub mod Refusals
+pub mod Contents
+pub mod Rules
+pub mod Calls

@@ -1,0 +1,15 @@
+pub mod Quotes
+pub mod Shorter
+pub mod Digits
+pub mod Names
+pub mod Exits
+pub mod Seats
+pub mod Inside
+pub mod Alike
+pub mod Slots
+pub mod Keeps
+pub mod Levels
+pub mod ReadsBack
+pub mod Stops
+pub mod Leaves
+pub mod FirstBad

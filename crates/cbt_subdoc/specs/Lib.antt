@@ -1,0 +1,10 @@
+pub mod PathLimits
+pub mod Paths
+pub mod Readings
+pub mod Members
+pub mod Reach
+pub mod Values
+pub mod Edits
+pub mod Fits
+pub mod Along
+pub mod Written

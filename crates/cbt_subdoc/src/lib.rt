@@ -1,0 +1,23 @@
+//! Paths, look-ups and changes in one JSON document.
+#![tactic(auto)]
+
+mod along;
+mod changes;
+mod edits;
+mod laws;
+mod looks;
+mod members;
+mod parsing;
+mod path;
+mod reaching;
+mod values;
+
+pub use changes::{Mut, MutFault, MutOp, MutValue, apply_change, mut_fits, mutate};
+pub use edits::Refusal;
+pub use laws::{bad_byte_is_first, path_reads_back};
+pub use looks::{Look, LookAnswer, lookup};
+pub use path::{Part, Path, PathFault};
+pub use values::macro_text;
+
+#[cfg(test)]
+mod tests;
