@@ -72,6 +72,7 @@ pub record Unshared (plan : CleanerPlan) (l : List Made) (course : Course) (log 
   pub share : log.share ≡ None
   pub passes : log.passes ≡ []
 
+-- the log of a round
 pub record RoundFollows (plan : CleanerPlan) (l : List Made) (course : Course) (at : ℕ) (log : RoundLog) : Type 0 where
   pub spanned : IsSpan l at log.span
   pub goes : Shared plan l course log ⊎ Unshared plan l course log

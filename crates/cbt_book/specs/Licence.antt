@@ -29,6 +29,7 @@ listed Insert lists = lists.ins
 listed Replace lists = lists.rep
 listed Remove lists = lists.rem
 
+-- lists name a document, under some kind
 abbrev pub IsListed : List ℕ → Lists → Type 0
 IsListed d lists = (k : OpKind) × In d (listed k lists)
 

@@ -15,6 +15,7 @@ use Rattle.cbt_book.specs.declared.cleaners.PassEnd.{PassEnd}
 use Rattle.cbt_book.specs.declared.cleaners.PassEnd.TheVariants as pass_end
 use Rattle.cbt_book.specs.declared.cleaners.PassLog.{PassLog}
 
+-- whether an entry has stood for longer than it may, at this time
 abbrev pub is_expired : ℕ → Entry → Bool
 is_expired now e = nat_lt (ms_of e.start + e.exp) now
 
@@ -44,6 +45,7 @@ pub record PassKept (r : ℕ) (first : Made) (calls : List Made) (covered : List
   pub finished : (a : ℕ) → In a covered → Finishes r a calls
   pub answered : Each (λ m _. m.answer.reply ≢ reply.Failed) calls
 
+-- a pass ends so: Ok, or by a call that failed
 abbrev pub EndsPass : ℕ → Made → List Made → PassEnd → Type 0
 EndsPass r first calls (pass_end.Ok covered) = PassKept r first calls covered
 EndsPass r first calls (pass_end.CallFailed place) = Once (λ m _. (m.answer.place ≡ place) × (m.answer.reply ≡ reply.Failed)) calls

@@ -27,7 +27,7 @@ use Rattle.cbt_book.specs.declared.book.Book.{Book}
 use Rattle.cbt_book.specs.declared.clients.AttemptLog.{AttemptLog}
 use Rattle.cbt_core.specs.Attempts.{MayClose, MayKeep, AttemptFollows, course_of}
 use Rattle.cbt_core.specs.Invariant.{StagesEffectively, WritesNoMore}
-use Rattle.cbt_core.specs.Walk.{Trying, Sofar, OwnWrite, Request, Reads, Writes, walked, nothing_yet, request_of}
+use Rattle.cbt_core.specs.Walk.{AttemptTerms, Sofar, OwnWrite, Request, Reads, Writes, walked, nothing_yet, request_of}
 use Rattle.cbt_core.specs.OpCalls.{OpCalls, MayGet, MayWrite}
 use Rattle.cbt_core.specs.Operations.{ops_end}
 use Rattle.cbt_core.specs.Runs.{IsLegalRun, LogsFollow, own_of}
@@ -54,7 +54,7 @@ pub data IsFor (a : ℕ) (st : Step) : Type 0 where
   closing_it : (r : ℕ) (lists : Lists) → Closing r a lists st → IsFor a st
 
 -- a call of an operation is made for the attempt of the operation
-op_for : (t : Trying) (r : Request) (calls : List Made) (m : Made) (a : ℕ) → OpCalls t r calls → In m calls → IsFor a m.step → t.id ≡ a
+op_for : (t : AttemptTerms) (r : Request) (calls : List Made) (m : Made) (a : ℕ) → OpCalls t r calls → In m calls → IsFor a m.step → t.id ≡ a
 op_for t (Reads d name) calls m a may there (adding r exp is) = absurd (subst (λ st. MayGet d st) is (each_of (λ x. MayGet d x.step) calls m may.only there))
 op_for t (Reads d name) calls m a may there (staging q ex stage is own_one) = absurd (subst (λ st. MayGet d st) is (each_of (λ x. MayGet d x.step) calls m may.only there))
 op_for t (Reads d name) calls m a may there (closing_it r lists (commit is)) = absurd (subst (λ st. MayGet d st) is (each_of (λ x. MayGet d x.step) calls m may.only there))
@@ -70,7 +70,7 @@ close_for id past st a may (staging q ex stage is own_one) = absurd (subst (λ x
 close_for id past st a may (closing_it r lists (commit is)) = sym (subst (λ x. MayClose id past x) is may).0
 close_for id past st a may (closing_it r lists (abort is)) = sym (subst (λ x. MayClose id past x) is may).0
 
-part_for : (t : Trying) (l : List Made) (at : ℕ) (log : AttemptLog) (follows : AttemptFollows t l at log) (m : Made) (a : ℕ) → Part t l at log follows m → IsFor a m.step → t.id ≡ a
+part_for : (t : AttemptTerms) (l : List Made) (at : ℕ) (log : AttemptLog) (follows : AttemptFollows t l at log) (m : Made) (a : ℕ) → Part t l at log follows m → IsFor a m.step → t.id ≡ a
 part_for t l at log follows m a (in_ops home early) is = op_for t (request_of home.sofar.bound home.op) (during home.log.span l) m a home.follows.calls home.inside is
 part_for t l at log follows m a (in_cut r calls next rest left may there late) is = op_for t r calls m a may there is
 part_for t l at log follows m a (in_closing past may before closes late) is = close_for t.id past m.step a may is
@@ -182,7 +182,7 @@ module _ (case : Case) (book : Book) (legal : IsLegalRun case book) (follow : Lo
     pub here : Inside a it q e
     here = inside_of q a e takes.event (closing_it r lists (commit is)) it
 
-    not_op : (t : Trying) (req : Request) (calls : List Made) → OpCalls t req calls → In (made_at s0 h q e) calls → ⊥
+    not_op : (t : AttemptTerms) (req : Request) (calls : List Made) → OpCalls t req calls → In (made_at s0 h q e) calls → ⊥
     not_op t (Reads d name) calls may_call there = subst (λ st. MayGet d st) is (each_of (λ x. MayGet d x.step) calls (made_at s0 h q e) may_call.only there)
     not_op t (Writes d kind content) calls may_call there = subst (λ st. MayWrite t d st) is (each_of (λ x. MayWrite t d x.step) calls (made_at s0 h q e) may_call.only there)
 

@@ -17,14 +17,14 @@ use Rattle.cbt_book.specs.declared.operations.OpAnswer.TheVariants as answer
 use Rattle.cbt_book.specs.declared.operations.OpLog.{OpLog}
 use Rattle.cbt_core.specs.Attempts.{AttemptFollows, all_good}
 use Rattle.cbt_core.specs.Clients.{FollowsPlan, TxnsFollow, txns_end}
-use Rattle.cbt_core.specs.Walk.{Trying, Sofar, noted}
+use Rattle.cbt_core.specs.Walk.{AttemptTerms, Sofar, noted}
 use Rattle.cbt_core.specs.Operations.{OpFollows, OpsFollow, ops_end, is_good}
-use Rattle.cbt_core.specs.Transactions.{Making, trying, AttemptsFollow, TxnFollows, attempts_end}
+use Rattle.cbt_core.specs.Transactions.{TxnTerms, attempt_terms, AttemptsFollow, TxnFollows, attempts_end}
 use Rattle.cbt_core.specs.WriteSets.{numbered}
 use Rattle.cbt_core.proofs.Calls.{in_during, after_gap, each_of}
 
 -- the operation in which a call was made
-pub record OpHome (t : Trying) (l : List Made) (logs : List OpLog) (m : Made) : Type 0 where
+pub record OpHome (t : AttemptTerms) (l : List Made) (logs : List OpLog) (m : Made) : Type 0 where
   pub at : ℕ
   pub number : ℕ
   pub sofar : Sofar
@@ -38,7 +38,7 @@ both_true : (a b : Bool) → (a && b) ≡ true → (a ≡ true) × (b ≡ true)
 both_true true b is = (refl, is)
 both_true false b is = absurd (cc)
 
-pub find_op : (t : Trying) (l : List Made) (at n : ℕ) (so : Sofar) (ops : List Op) (logs : List OpLog) (m : Made) → OpsFollow t l at n so ops logs → In m l → at ≤ m.answer.place
+pub find_op : (t : AttemptTerms) (l : List Made) (at n : ℕ) (so : Sofar) (ops : List Op) (logs : List OpLog) (m : Made) → OpsFollow t l at n so ops logs → In m l → at ≤ m.answer.place
     → m.answer.place < ops_end at logs → OpHome t l logs m
 find_op t l at n so ops [] m follow there low high = absurd (omega arith)
 find_op t l at n so [] (log ∷ logs) m follow there low high = absurd follow
@@ -74,23 +74,23 @@ failed_no_good place a is good = differ (sym (ap is_good is) ∙ good)
     differ e = cc
 
 -- where all answers are good no call of an operation failed
-pub none_failed : (t : Trying) (l : List Made) (at n : ℕ) (so : Sofar) (ops : List Op) (logs : List OpLog) (m : Made) → OpsFollow t l at n so ops logs → all_good logs ≡ true → In m l
+pub none_failed : (t : AttemptTerms) (l : List Made) (at n : ℕ) (so : Sofar) (ops : List Op) (logs : List OpLog) (m : Made) → OpsFollow t l at n so ops logs → all_good logs ≡ true → In m l
     → at ≤ m.answer.place → m.answer.place < ops_end at logs → m.answer.reply ≢ reply.Failed
 none_failed t l at n so ops logs m follow all there low high =
     let it = find_op t l at n so ops logs m follow there low high in
     λ failed. absurd (failed_no_good m.answer.place it.log.answer (each_of (λ x. x.answer.reply ≡ reply.Failed → it.log.answer ≡ answer.CallFailed x.answer.place) (during it.log.span l) m it.follows.failed it.inside failed) (it.good all))
 
 -- the attempt in which a place lies
-pub record AttemptHome (x : Making) (l : List Made) (start n : ℕ) (logs : List AttemptLog) (p : ℕ) : Type 0 where
+pub record AttemptHome (x : TxnTerms) (l : List Made) (start n : ℕ) (logs : List AttemptLog) (p : ℕ) : Type 0 where
   pub index : ℕ
   pub at : ℕ
   pub log : AttemptLog
   pub is : slice_get logs index ≡ Some log
-  pub follows : AttemptFollows (trying x start (n + index)) l at log
+  pub follows : AttemptFollows (attempt_terms x start (n + index)) l at log
   pub low : at ≤ p
   pub high : p < log.span.to
 
-pub find_attempt : (x : Making) (l : List Made) (start at n : ℕ) (logs : List AttemptLog) (p : ℕ) → AttemptsFollow x l start at n logs → at ≤ p → p < attempts_end at logs → AttemptHome x l start n logs p
+pub find_attempt : (x : TxnTerms) (l : List Made) (start at n : ℕ) (logs : List AttemptLog) (p : ℕ) → AttemptsFollow x l start at n logs → at ≤ p → p < attempts_end at logs → AttemptHome x l start n logs p
 find_attempt x l start at n [] p follow low high = absurd (omega arith)
 find_attempt x l start at n (log ∷ logs) p follow low high =
     ⊎_elim (λ (inside : p < log.span.to). record {
@@ -98,13 +98,13 @@ find_attempt x l start at n (log ∷ logs) p follow low high =
       at = at;
       log = log;
       is = refl;
-      follows = subst (λ k. AttemptFollows (trying x start k) l at log) (plus_none n) follow.0;
+      follows = subst (λ k. AttemptFollows (attempt_terms x start k) l at log) (plus_none n) follow.0;
       low = low;
       high = inside;
     })
     (λ (past : log.span.to ≤ p).
     let it = find_attempt x l start log.span.to (suc n) logs p follow.2 past high in
-    record { index = suc it.index; at = it.at; log = it.log; is = it.is; follows = subst (λ k. AttemptFollows (trying x start k) l it.at it.log) (plus_one n it.index) it.follows; low = it.low; high = it.high })
+    record { index = suc it.index; at = it.at; log = it.log; is = it.is; follows = subst (λ k. AttemptFollows (attempt_terms x start k) l it.at it.log) (plus_one n it.index) it.follows; low = it.low; high = it.high })
     (cases_lt p log.span.to)
   where
     plus_none : (n : ℕ) → n ≡ n + 0
@@ -176,7 +176,7 @@ pub record Home (client atrs : ℕ) (plan : ClientPlan) (l : List Made) (log : C
   pub txn_is : numbered log.txns txn ≡ Some txn_log
   pub attempt_is : numbered txn_log.attempts try_no ≡ Some attempt
   pub txn_follows : TxnFollows (record { client = client; number = txn; plan = txn_plan; atrs = atrs }) l txn_start txn_log
-  pub follows : AttemptFollows (trying (record { client = client; number = txn; plan = txn_plan; atrs = atrs }) start try_no) l at attempt
+  pub follows : AttemptFollows (attempt_terms (record { client = client; number = txn; plan = txn_plan; atrs = atrs }) start try_no) l at attempt
   pub low : at ≤ m.answer.place
   pub high : m.answer.place < attempt.span.to
 
@@ -187,7 +187,7 @@ find_in : (client atrs : ℕ) (plan : ClientPlan) (l : List Made) (log : ClientL
     → numbered log.txns txn ≡ Some txn_log → TxnFollows (record { client = client; number = txn; plan = txn_plan; atrs = atrs }) l at txn_log → at ≤ m.answer.place
     → m.answer.place < attempts_end at txn_log.attempts → Home client atrs plan l log m
 find_in client atrs plan l log m txn at txn_plan txn_log plan_is txn_is follows low high =
-    let x : Making = record { client = client; number = txn; plan = txn_plan; atrs = atrs } in
+    let x : TxnTerms = record { client = client; number = txn; plan = txn_plan; atrs = atrs } in
     let it = find_attempt x l follows.start at 1 txn_log.attempts m.answer.place follows.attempts low high in
     record {
       txn = txn;
@@ -202,7 +202,7 @@ find_in client atrs plan l log m txn at txn_plan txn_log plan_is txn_is follows 
       txn_is = txn_is;
       attempt_is = it.is;
       txn_follows = follows;
-      follows = subst (λ k. AttemptFollows (trying x follows.start k) l it.at it.log) (one_more it.index) it.follows;
+      follows = subst (λ k. AttemptFollows (attempt_terms x follows.start k) l it.at it.log) (one_more it.index) it.follows;
       low = it.low;
       high = it.high;
     }

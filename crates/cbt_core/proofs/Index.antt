@@ -12,11 +12,11 @@ use Rattle.cbt_book.specs.declared.clients.TxnLog.{TxnLog}
 use Rattle.cbt_book.specs.declared.operations.OpLog.{OpLog}
 use Rattle.cbt_core.specs.Attempts.{AttemptFollows}
 use Rattle.cbt_core.specs.Clients.{TxnsFollow}
-use Rattle.cbt_core.specs.Walk.{Trying, Sofar, noted, walked, nothing_yet}
+use Rattle.cbt_core.specs.Walk.{AttemptTerms, Sofar, noted, walked, nothing_yet}
 use Rattle.cbt_core.specs.Operations.{OpFollows, OpsFollow}
 use Rattle.cbt_core.specs.Right.{IsAnswer}
 use Rattle.cbt_core.specs.Runs.{IsLegalRun, LogsFollow, own_of}
-use Rattle.cbt_core.specs.Transactions.{Making, trying, AttemptsFollow, TxnFollows, attempts_end}
+use Rattle.cbt_core.specs.Transactions.{TxnTerms, attempt_terms, AttemptsFollow, TxnFollows, attempts_end}
 use Rattle.cbt_core.specs.WriteSets.{numbered, plan_at, txn_at, attempt_at}
 use Rattle.cbt_core.specs.declared.case.Case.{Case}
 use Rattle.cbt_core.proofs.Past.{some_same}
@@ -31,12 +31,12 @@ one_more : (i : ℕ) → 1 + i ≡ suc i
 one_more i = omega arith
 
 -- the operation with this number
-pub record OpAt (t : Trying) (l : List Made) (o : Op) (log : OpLog) (so : Sofar) : Type 0 where
+pub record OpAt (t : AttemptTerms) (l : List Made) (o : Op) (log : OpLog) (so : Sofar) : Type 0 where
   pub at : ℕ
   pub number : ℕ
   pub follows : OpFollows t l at number so o log
 
-pub op_at : (t : Trying) (l : List Made) (at n : ℕ) (so : Sofar) (ops : List Op) (logs : List OpLog) (j : ℕ) (o : Op) (log : OpLog) → OpsFollow t l at n so ops logs → slice_get ops j ≡ Some o
+pub op_at : (t : AttemptTerms) (l : List Made) (at n : ℕ) (so : Sofar) (ops : List Op) (logs : List OpLog) (j : ℕ) (o : Op) (log : OpLog) → OpsFollow t l at n so ops logs → slice_get ops j ≡ Some o
     → slice_get logs j ≡ Some log → OpAt t l o log (walked (take j ops) (take j logs) so)
 op_at t l at n so ops [] j o log follow op_is log_is = absurd (none_there j)
   where
@@ -53,16 +53,16 @@ op_at t l at n so (p ∷ ops) (x ∷ logs) zero o log follow op_is log_is =
 op_at t l at n so (p ∷ ops) (x ∷ logs) (suc j) o log follow op_is log_is = op_at t l x.span.to (suc n) (noted p x so) ops logs j o log follow.2 op_is log_is
 
 -- the attempt with this number
-pub record TryAt (x : Making) (l : List Made) (start k : ℕ) (log : AttemptLog) : Type 0 where
+pub record TryAt (x : TxnTerms) (l : List Made) (start k : ℕ) (log : AttemptLog) : Type 0 where
   pub at : ℕ
-  pub follows : AttemptFollows (trying x start k) l at log
+  pub follows : AttemptFollows (attempt_terms x start k) l at log
 
-pub try_at : (x : Making) (l : List Made) (start at n : ℕ) (logs : List AttemptLog) (j : ℕ) (log : AttemptLog) → AttemptsFollow x l start at n logs → slice_get logs j ≡ Some log → TryAt x l start (n + j) log
+pub try_at : (x : TxnTerms) (l : List Made) (start at n : ℕ) (logs : List AttemptLog) (j : ℕ) (log : AttemptLog) → AttemptsFollow x l start at n logs → slice_get logs j ≡ Some log → TryAt x l start (n + j) log
 try_at x l start at n [] j log follow is = absurd (none-some log is)
 try_at x l start at n (y ∷ logs) zero log follow is =
-    record { at = at; follows = subst (λ z. AttemptFollows (trying x start (n + 0)) l at z) (some_same is) (subst (λ k. AttemptFollows (trying x start k) l at y) (plus_none n) follow.0) }
+    record { at = at; follows = subst (λ z. AttemptFollows (attempt_terms x start (n + 0)) l at z) (some_same is) (subst (λ k. AttemptFollows (attempt_terms x start k) l at y) (plus_none n) follow.0) }
 try_at x l start at n (y ∷ logs) (suc j) log follow is =
-    let it = try_at x l start y.span.to (suc n) logs j log follow.2 is in record { at = it.at; follows = subst (λ k. AttemptFollows (trying x start k) l it.at log) (plus_one n j) it.follows }
+    let it = try_at x l start y.span.to (suc n) logs j log follow.2 is in record { at = it.at; follows = subst (λ k. AttemptFollows (attempt_terms x start k) l it.at log) (plus_one n j) it.follows }
 
 -- the transaction with this number
 pub record TxnAt (client atrs : ℕ) (l : List Made) (number : ℕ) (plan : TxnPlan) (log : TxnLog) : Type 0 where
@@ -119,7 +119,7 @@ module _ (case : Case) (book : Book) (legal : IsLegalRun case book) (follow : Lo
   pub record TryOf (client txn try_no : ℕ) (plan : TxnPlan) (log : AttemptLog) : Type 0 where
     pub start : ℕ
     pub at : ℕ
-    pub follows : AttemptFollows (trying (record { client = client; number = txn; plan = plan; atrs = case.atrs }) start try_no) (own_of book client) at log
+    pub follows : AttemptFollows (attempt_terms (record { client = client; number = txn; plan = plan; atrs = case.atrs }) start try_no) (own_of book client) at log
 
   pub try_of_run : (client txn try_no : ℕ) (plan : ClientPlan) (log : AttemptLog) (x : TxnPlan) → numbered case.plans client ≡ Some plan → plan_at case.plans client txn ≡ Some x
       → attempt_at book.clients client txn try_no ≡ Some log → TryOf client txn try_no x log
@@ -133,13 +133,13 @@ module _ (case : Case) (book : Book) (legal : IsLegalRun case book) (follow : Lo
       record {
         start = it.follows.start;
         at = one.at;
-        follows = subst (λ y. AttemptFollows (trying (record { client = client; number = txn; plan = y; atrs = case.atrs }) it.follows.start try_no) (own_of book client) one.at log) same
-            (subst (λ k. AttemptFollows (trying (record { client = client; number = txn; plan = it.plan; atrs = case.atrs }) it.follows.start k) (own_of book client) one.at log) number one.follows);
+        follows = subst (λ y. AttemptFollows (attempt_terms (record { client = client; number = txn; plan = y; atrs = case.atrs }) it.follows.start try_no) (own_of book client) one.at log) same
+            (subst (λ k. AttemptFollows (attempt_terms (record { client = client; number = txn; plan = it.plan; atrs = case.atrs }) it.follows.start k) (own_of book client) one.at log) number one.follows);
       }
 
   -- the operation of an answer
   pub record OpOf (client txn try_no : ℕ) (plan : TxnPlan) (o : Op) (log : OpLog) (so : Sofar) : Type 0 where
-    pub t : Trying
+    pub t : AttemptTerms
     pub at : ℕ
     pub number : ℕ
     pub follows : OpFollows t (own_of book client) at number so o log
@@ -153,7 +153,7 @@ module _ (case : Case) (book : Book) (legal : IsLegalRun case book) (follow : Lo
       let try_is = try_of_run client txn try_no c.0 it.attempt it.plan c.1 it.plan_is it.attempt_is in
       let j = from_one it.plan.ops n o it.op_is in
       let log_is : slice_get it.attempt.ops j.0 ≡ Some log = ap (λ k. numbered it.attempt.ops k) (sym j.1) ∙ it.log_is in
-      let t = trying (record { client = client; number = txn; plan = it.plan; atrs = case.atrs }) try_is.start try_no in
+      let t = attempt_terms (record { client = client; number = txn; plan = it.plan; atrs = case.atrs }) try_is.start try_no in
       let op = op_at t (own_of book client) try_is.at 1 nothing_yet it.plan.ops it.attempt.ops j.0 o log try_is.follows.ops j.2 log_is in
       let index : n - 1 ≡ j.0 = ap (λ k. k - 1) j.1 ∙ minus_one j.0 in
       record {

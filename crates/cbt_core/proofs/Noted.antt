@@ -22,7 +22,7 @@ use Rattle.cbt_book.specs.declared.operations.OpLog.{OpLog}
 use Rattle.cbt_book.specs.declared.operations.Span.{Span}
 use Rattle.cbt_book.specs.declared.operations.When.{When}
 use Rattle.cbt_book.specs.declared.operations.When.TheVariants as when
-use Rattle.cbt_core.specs.Walk.{Trying, Sofar, OwnWrite, Request, Reads, Writes, request_of, noted, noted_as, walked, with_value, nothing_yet, kind_over, own_kind}
+use Rattle.cbt_core.specs.Walk.{AttemptTerms, Sofar, OwnWrite, Request, Reads, Writes, request_of, noted, noted_as, walked, with_value, nothing_yet, kind_over, own_kind}
 use Rattle.cbt_core.specs.OpAnswers.{StagesOver, TakesBack, DoneAt, Answered}
 use Rattle.cbt_core.specs.OpCalls.{MayGet, MayWrite, OpCalls}
 use Rattle.cbt_core.specs.Operations.{StandsAt, OpFollows, OpsFollow, ops_end}
@@ -46,7 +46,7 @@ abbrev pub WritesDone : List ℕ → Made → Type 0
 WritesDone d m = StagesDone d m ⊎ UnsticksDone d m
 
 -- the call of an own write, after which the document was written no more
-pub record OwnWriteAt (t : Trying) (l : List Made) (from to : ℕ) (d : List ℕ) (w : OwnWrite) : Type 0 where
+pub record OwnWriteAt (t : AttemptTerms) (l : List Made) (from to : ℕ) (d : List ℕ) (w : OwnWrite) : Type 0 where
   pub call : Made
   pub there : In call l
   pub low : from ≤ call.answer.place
@@ -67,7 +67,7 @@ pub record TakenBack (l : List Made) (to : ℕ) (d : List ℕ) (m : Made) : Type
   pub unsticks : UnsticksDone d call
 
 -- the own writes are the stagings of the calls between two places that were not taken back
-pub record IsNoted (t : Trying) (l : List Made) (from to : ℕ) (so : Sofar) : Type 0 where
+pub record IsNoted (t : AttemptTerms) (l : List Made) (from to : ℕ) (so : Sofar) : Type 0 where
   pub staged : (d : List ℕ) (w : OwnWrite) → so.own d ≡ Some w → OwnWriteAt t l from to d w
   pub free : (d : List ℕ) (m : Made) → so.own d ≡ None → In m l → from ≤ m.answer.place → m.answer.place < to → StagesDone d m → TakenBack l to d m
 
@@ -85,7 +85,7 @@ told_at (answer.Staged place base) = Some place
 told_at (answer.Unstaged place) = Some place
 told_at _ = None
 
-module _ (t : Trying) (l : List Made) (from at : ℕ) (so : Sofar) (calls : List Made) (to : ℕ)
+module _ (t : AttemptTerms) (l : List Made) (from at : ℕ) (so : Sofar) (calls : List Made) (to : ℕ)
     (covers : (m : Made) → In m l → at ≤ m.answer.place → m.answer.place < to → In m calls)
     (inside : (m : Made) → In m calls → In m l × (at ≤ m.answer.place) × (m.answer.place < to))
     (begins : from ≤ at) (ends : at ≤ to) where
@@ -293,7 +293,7 @@ module _ (t : Trying) (l : List Made) (from at : ℕ) (so : Sofar) (calls : List
     by_request (Writes q kind (Err part)) span a told may stands = quiet so before (λ d. refl) (λ d m there writes. absurd (subst (λ c. In m c) (no_calls q kind part a told) there))
 
 -- an operation's answer adds to what was noted what its calls have done
-noted_next : (t : Trying) (l : List Made) (from at n : ℕ) (so : Sofar) (o : Op) (log : OpLog) → OpFollows t l at n so o log → from ≤ at → IsNoted t l from at so → IsNoted t l from log.span.to (noted o log so)
+noted_next : (t : AttemptTerms) (l : List Made) (from at n : ℕ) (so : Sofar) (o : Op) (log : OpLog) → OpFollows t l at n so o log → from ≤ at → IsNoted t l from at so → IsNoted t l from log.span.to (noted o log so)
 noted_next t l from at n so o log follows begins before =
     by_request t l from at so (during log.span l) log.span.to
     (λ m there low high. in_during log.span m l there (after_gap l at log.span m follows.spanned there low) high)
@@ -302,7 +302,7 @@ noted_next t l from at n so o log follows begins before =
     before (request_of so.bound o) log.span log.answer follows.answered follows.calls follows.stands
 
 -- operations end where they begin, or later
-pub ops_low : (t : Trying) (l : List Made) (at n : ℕ) (so : Sofar) (ops : List Op) (logs : List OpLog) → OpsFollow t l at n so ops logs → at ≤ ops_end at logs
+pub ops_low : (t : AttemptTerms) (l : List Made) (at n : ℕ) (so : Sofar) (ops : List Op) (logs : List OpLog) → OpsFollow t l at n so ops logs → at ≤ ops_end at logs
 ops_low t l at n so ops [] follow = omega arith
 ops_low t l at n so [] (log ∷ logs) follow = absurd follow
 ops_low t l at n so (o ∷ ops) (log ∷ logs) follow =
@@ -310,7 +310,7 @@ ops_low t l at n so (o ∷ ops) (log ∷ logs) follow =
     let a = follow.0.spanned.follows in let b = span_order l at log.span follow.0.spanned in omega arith
 
 -- so for all operations of an attempt
-pub noted_all : (t : Trying) (l : List Made) (from at n : ℕ) (so : Sofar) (ops : List Op) (logs : List OpLog) → OpsFollow t l at n so ops logs → from ≤ at → IsNoted t l from at so
+pub noted_all : (t : AttemptTerms) (l : List Made) (from at n : ℕ) (so : Sofar) (ops : List Op) (logs : List OpLog) → OpsFollow t l at n so ops logs → from ≤ at → IsNoted t l from at so
     → IsNoted t l from (ops_end at logs) (walked ops logs so)
 noted_all t l from at n so [] [] follow begins before = before
 noted_all t l from at n so (o ∷ ops) [] follow begins before = before
@@ -320,7 +320,7 @@ noted_all t l from at n so (o ∷ ops) (log ∷ logs) follow begins before =
     (noted_next t l from at n so o log follow.0 begins before)
 
 -- nothing is noted before the first operation
-pub noted_none : (t : Trying) (l : List Made) (at : ℕ) → IsNoted t l at at nothing_yet
+pub noted_none : (t : AttemptTerms) (l : List Made) (at : ℕ) → IsNoted t l at at nothing_yet
 noted_none t l at = record {
   staged = λ d w is. absurd (none-some w is);
   free = λ d m none there low high stages. absurd (omega arith);

@@ -29,10 +29,10 @@ use Rattle.cbt_book.specs.declared.clients.TxnLog.{TxnLog}
 use Rattle.cbt_core.specs.Attempts.{AttemptFollows, Ends, IsUndone, HasAborted, course_of, MayKeep, LastIs, CommitHolds, CommitsInDoubt, Settles, CutFollows}
 use Rattle.cbt_core.specs.Attempts as attempts
 use Rattle.cbt_core.specs.Runs.{IsLegalRun, LogsFollow, own_of}
-use Rattle.cbt_core.specs.Walk.{Trying}
+use Rattle.cbt_core.specs.Walk.{AttemptTerms}
 use Rattle.cbt_core.specs.Operations.{ops_end}
 use Rattle.cbt_core.specs.Laws.{TxnCommitsAt, tells_none}
-use Rattle.cbt_core.specs.Transactions.{Making, AttemptsFollow, IsRetried, TriesOn, LastTry, TxnFollows, EndsTxn, IsExpiredAt, CutAt, AnsweredWell, Refuses, trying}
+use Rattle.cbt_core.specs.Transactions.{TxnTerms, AttemptsFollow, IsRetried, TriesOn, LastTry, TxnFollows, EndsTxn, IsExpiredAt, CutAt, AnsweredWell, Refuses, attempt_terms}
 use Rattle.cbt_core.specs.Transactions as transactions
 use Rattle.cbt_core.specs.WriteSets.{numbered, txn_at, attempt_at, log_of}
 use Rattle.cbt_core.specs.declared.case.Case.{Case}
@@ -259,7 +259,7 @@ module _ (case : Case) (book : Book) (legal : IsLegalRun case book) (follow : Lo
         let mine = attempt_it case book legal follow lawful p st.0 log.id st.1 it.event it.takes st.2 in
         not_committed p st.0 log.id st.1 it.event it.takes st.2 (subst (λ (x : AttemptLog). Uncommitted x.end) (sym (same_log log.id refl mine)) un)
 
-  retried_before : (x : Making) (l : List Made) (start at n : ℕ) (logs : List AttemptLog) (i : ℕ) (log : AttemptLog) → AttemptsFollow x l start at n logs → slice_get logs i ≡ Some log
+  retried_before : (x : TxnTerms) (l : List Made) (start at n : ℕ) (logs : List AttemptLog) (i : ℕ) (log : AttemptLog) → AttemptsFollow x l start at n logs → slice_get logs i ≡ Some log
       → suc i < length logs → IsRetried log
   retried_before x l start at n [] i log follows is low = absurd (omega arith)
   retried_before x l start at n (y ∷ []) zero log follows is low = absurd (omega arith)
@@ -299,7 +299,7 @@ module _ (case : Case) (book : Book) (legal : IsLegalRun case book) (follow : Lo
           (s, commits_once s0 h lawful two.log.id p q (subst (λ (x : AttemptLog). CommitsAt s0 h x.id p) same one.commits) two.commits)
 
   -- the last attempt of a transaction that ended so has no commit, and so none has
-  last_uncommitted : (x : Making) (l : List Made) (latest : ℕ) (log : TxnLog) → EndsTxn x l latest log.attempts log.end → tells_none log.end ≡ true
+  last_uncommitted : (x : TxnTerms) (l : List Made) (latest : ℕ) (log : TxnLog) → EndsTxn x l latest log.attempts log.end → tells_none log.end ≡ true
       → (last : AttemptLog) × (numbered log.attempts (length log.attempts) ≡ Some last) × Uncommitted last.end
   last_uncommitted x l latest log ends tells = go log.end ends tells
     where
@@ -356,7 +356,7 @@ module _ (case : Case) (book : Book) (legal : IsLegalRun case book) (follow : Lo
       go (later_one l) = let high = (numbered_within log.attempts j it.log here).1 in absurd (omega arith)
 
   -- the commit that a log tells of took effect at its place
-  module _ (client : ℕ) (t : Trying) (at : ℕ) (log : AttemptLog) (follows : AttemptFollows t (own_of book client) at log) (place : ℕ) where
+  module _ (client : ℕ) (t : AttemptTerms) (at : ℕ) (log : AttemptLog) (follows : AttemptFollows t (own_of book client) at log) (place : ℕ) where
     abbrev closes : List Made
     closes = follows.closing
 
@@ -483,7 +483,7 @@ module _ (case : Case) (book : Book) (legal : IsLegalRun case book) (follow : Lo
       let last = last_try (λ a. (place : ℕ) × (a.end ≡ attempt_end.Committed place complete)) log.attempts (subst (λ e. EndsTxn (record { client = client; number = txn; plan = tx_of.plan; atrs = case.atrs }) (own_of book client) (tx_of.follows.start + tx_of.plan.expiry) log.attempts e) end tx_of.follows.ends) in
       let attempt_is : attempt_at book.clients client txn (length log.attempts) ≡ Some last.0 = ap (λ o. option_and_then (λ (y : TxnLog). numbered y.attempts (length log.attempts)) o) log_is ∙ last.1 in
       let one = try_of_run case book legal follow client txn (length log.attempts) p.0 last.0 tx_of.plan p.1 tx_of.plan_is attempt_is in
-      let t = trying (record { client = client; number = txn; plan = tx_of.plan; atrs = case.atrs }) one.start (length log.attempts) in
+      let t = attempt_terms (record { client = client; number = txn; plan = tx_of.plan; atrs = case.atrs }) one.start (length log.attempts) in
       let ends = subst (λ e. Ends t (course_of t last.0 one.follows.cut one.follows.closing) (during last.0.span (own_of book client)) e) last.2.1 one.follows.ends in
       let commits_there = holds_at client t one.at last.0 one.follows last.2.0 ends.0 ends.1 in
       (last.0, last.2.0, last.1, last.2.1, record { log = last.0; log_is = attempt_is; commits = subst (λ a. CommitsAt s0 h a last.2.0) (sym one.follows.id) commits_there })

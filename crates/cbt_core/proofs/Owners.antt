@@ -19,11 +19,11 @@ use Rattle.cbt_book.specs.declared.clients.AttemptLog.{AttemptLog}
 use Rattle.cbt_book.specs.declared.clients.ClientLog.{ClientLog}
 use Rattle.cbt_core.specs.Attempts.{AttemptFollows, MayClose, CutFollows, course_of}
 use Rattle.cbt_core.specs.Clients.{FollowsPlan}
-use Rattle.cbt_core.specs.Walk.{Trying, Request, walked, nothing_yet}
+use Rattle.cbt_core.specs.Walk.{AttemptTerms, Request, walked, nothing_yet}
 use Rattle.cbt_core.specs.OpCalls.{OpCalls}
 use Rattle.cbt_core.specs.Operations.{ops_end}
 use Rattle.cbt_core.specs.Runs.{IsLegalRun, LogsFollow, own_of, sweeps}
-use Rattle.cbt_core.specs.Transactions.{trying}
+use Rattle.cbt_core.specs.Transactions.{attempt_terms}
 use Rattle.cbt_core.specs.WriteSets.{numbered, plan_at, attempt_at, plan_of, log_of, own_writes_by, own_writes_of}
 use Rattle.cbt_core.specs.declared.case.Case.{Case}
 use Rattle.cbt_core.proofs.Calls.{during_in, in_during, each_of, each_past, in_front, in_either, own_in}
@@ -40,13 +40,13 @@ numbered_within xs zero x is = absurd (none-some x is)
 numbered_within xs (suc n) x is = let low = slice_get_within xs n x is in (omega arith, omega arith)
 
 -- the parts of an attempt's calls
-pub data Part (t : Trying) (l : List Made) (at : ℕ) (log : AttemptLog) (follows : AttemptFollows t l at log) (m : Made) : Type 0 where
+pub data Part (t : AttemptTerms) (l : List Made) (at : ℕ) (log : AttemptLog) (follows : AttemptFollows t l at log) (m : Made) : Type 0 where
   in_ops : OpHome t l log.ops m → m.answer.place < ops_end at log.ops → Part t l at log follows m
   in_cut : (r : Request) (calls : List Made) (next : Op) (rest : List Op) → drop (length log.ops) t.plan.ops ≡ next ∷ rest → OpCalls t r calls → In m calls → ops_end at log.ops ≤ m.answer.place
       → Part t l at log follows m
   in_closing : (past : List Made) → MayClose t.id past m.step → ((n : Made) → In n past → In n l) → In m follows.closing → ops_end at log.ops ≤ m.answer.place → Part t l at log follows m
 
-pub part_of : (t : Trying) (l : List Made) (at : ℕ) (log : AttemptLog) (follows : AttemptFollows t l at log) (m : Made) → In m l → at ≤ m.answer.place → m.answer.place < log.span.to
+pub part_of : (t : AttemptTerms) (l : List Made) (at : ℕ) (log : AttemptLog) (follows : AttemptFollows t l at log) (m : Made) → In m l → at ≤ m.answer.place → m.answer.place < log.span.to
     → Part t l at log follows m
 part_of t l at log follows m there low high =
     ⊎_elim (λ (early : m.answer.place < ops_end at log.ops). in_ops (find_op t l at 1 nothing_yet t.plan.ops log.ops m follows.ops there low early) early)
@@ -145,7 +145,7 @@ module _ (case : Case) (book : Book) (legal : IsLegalRun case book) (follow : Lo
     pub at : ℕ
     pub plan_is : plan_of case.plans a ≡ Some txn_plan
     pub log_is : log_of book.clients a ≡ Some attempt
-    pub t : Trying
+    pub t : AttemptTerms
     pub t_plan : t.plan ≡ txn_plan
     pub id_is : t.id ≡ a
     pub follows : AttemptFollows t (own_of book (client_of a)) at attempt
@@ -184,10 +184,10 @@ module _ (case : Case) (book : Book) (legal : IsLegalRun case book) (follow : Lo
             ∙ ap (λ x. attempt_at book.clients c x (try_of (attempt_number c home.txn home.try_no))) it.txn_is ∙ ap (λ x. attempt_at book.clients c home.txn x) it.try_is
             ∙ ap (λ o. option_and_then (λ t. numbered t.attempts home.try_no) (option_and_then (λ (x : ClientLog). numbered x.txns home.txn) o)) client.log_is
             ∙ ap (λ o. option_and_then (λ t. numbered t.attempts home.try_no) o) home.txn_is ∙ home.attempt_is;
-        t = trying (record { client = c; number = home.txn; plan = home.txn_plan; atrs = case.atrs }) home.start home.try_no;
+        t = attempt_terms (record { client = c; number = home.txn; plan = home.txn_plan; atrs = case.atrs }) home.start home.try_no;
         t_plan = refl;
         id_is = refl;
-        follows = subst (λ x. AttemptFollows (trying (record { client = c; number = home.txn; plan = home.txn_plan; atrs = case.atrs }) home.start home.try_no) (own_of book x) home.at home.attempt) (sym it.client_is) home.follows;
+        follows = subst (λ x. AttemptFollows (attempt_terms (record { client = c; number = home.txn; plan = home.txn_plan; atrs = case.atrs }) home.start home.try_no) (own_of book x) home.at home.attempt) (sym it.client_is) home.follows;
       }
 
   -- the own writes of an attempt are those of its log

@@ -33,12 +33,12 @@ use Rattle.cbt_book.specs.declared.operations.When.{When}
 use Rattle.cbt_book.specs.declared.operations.When.TheVariants as when
 use Rattle.cbt_core.specs.Clients.{TxnsFollow, txns_end}
 use Rattle.cbt_core.specs.Committed.{table_after, table_at}
-use Rattle.cbt_core.specs.Walk.{Trying, Sofar, Writes, request_of, content_of, noted, nothing_yet}
+use Rattle.cbt_core.specs.Walk.{AttemptTerms, Sofar, Writes, request_of, content_of, noted, nothing_yet}
 use Rattle.cbt_core.specs.OpAnswers.{Answered, GetAnswered, WriteAnswered, IsBadValue, ReadsAt}
 use Rattle.cbt_core.specs.Operations.{OpsFollow, ops_end}
 use Rattle.cbt_core.specs.Right.{IsAnswer, IsRightWhen, doc_of, read_when, moment_at, moments_of}
 use Rattle.cbt_core.specs.Runs.{IsLegalRun, LogsFollow, own_of}
-use Rattle.cbt_core.specs.Transactions.{Making, AttemptsFollow, attempts_end}
+use Rattle.cbt_core.specs.Transactions.{TxnTerms, AttemptsFollow, attempts_end}
 use Rattle.cbt_core.specs.WriteSets.{numbered, write_set}
 use Rattle.cbt_core.specs.declared.case.Case.{Case}
 use Rattle.cbt_core.proofs.Calls.{filter_in}
@@ -116,7 +116,7 @@ module _ (case : Case) (book : Book) (legal : IsLegalRun case book) (follow : Lo
     right_get so d answer.NeedFalse told = tt
     right_get so d (answer.BadValue part_no) told = tt
 
-    right_write : (t : Trying) (so : Sofar) (d : List ℕ) (kind : OpKind) (content : Option Json) (a : OpAnswer) → WriteAnswered t (own_of book client) so d kind content calls a
+    right_write : (t : AttemptTerms) (so : Sofar) (d : List ℕ) (kind : OpKind) (content : Option Json) (a : OpAnswer) → WriteAnswered t (own_of book client) so d kind content calls a
         → IsRightWhen case book so d span a (read_when a)
     right_write t so d kind content (answer.DocExists when.Own) told = (Some told.1.0, told.1.1, some_not_none told.1.0)
     right_write t so d kind content (answer.DocExists (when.At moment)) told =
@@ -148,12 +148,12 @@ module _ (case : Case) (book : Book) (legal : IsLegalRun case book) (follow : Lo
     right_bad so d part_no answer.Holds told = tt
     right_bad so d part_no answer.NeedFalse told = tt
 
-    by_value : (t : Trying) (so : Sofar) (d : List ℕ) (kind : OpKind) (v : Result Json ℕ) (a : OpAnswer) → Answered t (own_of book client) so (Writes d kind (content_of v)) calls a
+    by_value : (t : AttemptTerms) (so : Sofar) (d : List ℕ) (kind : OpKind) (v : Result Json ℕ) (a : OpAnswer) → Answered t (own_of book client) so (Writes d kind (content_of v)) calls a
         → IsRightWhen case book so d span a (read_when a)
     by_value t so d kind (Ok value) a told = right_write t so d kind (Some value) a told
     by_value t so d kind (Err part_no) a told = right_bad so d part_no a told
 
-    pub right_by : (t : Trying) (so : Sofar) (o : Op) (a : OpAnswer) → Answered t (own_of book client) so (request_of so.bound o) calls a → IsRightWhen case book so (doc_of o) span a (read_when a)
+    pub right_by : (t : AttemptTerms) (so : Sofar) (o : Op) (a : OpAnswer) → Answered t (own_of book client) so (request_of so.bound o) calls a → IsRightWhen case book so (doc_of o) span a (read_when a)
     right_by t so (op.Get d name) a told = right_get so d a told
     right_by t so (op.Insert d value) a told = by_value t so d Insert (value_of so.bound value) a told
     right_by t so (op.Replace d value) a told = by_value t so d Replace (value_of so.bound value) a told
@@ -213,7 +213,7 @@ module _ (case : Case) (book : Book) (legal : IsLegalRun case book) (follow : Lo
   abbrev of_op : OpLog → Option ℕ
   of_op o = moment_at (read_when o.answer)
 
-  op_moments : (t : Trying) (at n : ℕ) (so : Sofar) (ops : List Op) (logs : List OpLog) → OpsFollow t (own_of book client) at n so ops logs → Climbs at (ops_end at logs) (filter_map of_op logs)
+  op_moments : (t : AttemptTerms) (at n : ℕ) (so : Sofar) (ops : List Op) (logs : List OpLog) → OpsFollow t (own_of book client) at n so ops logs → Climbs at (ops_end at logs) (filter_map of_op logs)
   op_moments t at n so ops [] follows = omega arith
   op_moments t at n so [] (log ∷ logs) follows = absurd follows
   op_moments t at n so (o ∷ ops) (log ∷ logs) follows =
@@ -229,7 +229,7 @@ module _ (case : Case) (book : Book) (legal : IsLegalRun case book) (follow : Lo
   abbrev of_attempt : AttemptLog → List ℕ
   of_attempt a = filter_map of_op a.ops
 
-  attempt_moments : (x : Making) (start at n : ℕ) (logs : List AttemptLog) → AttemptsFollow x (own_of book client) start at n logs → Climbs at (attempts_end at logs) (flat_map of_attempt logs)
+  attempt_moments : (x : TxnTerms) (start at n : ℕ) (logs : List AttemptLog) → AttemptsFollow x (own_of book client) start at n logs → Climbs at (attempts_end at logs) (flat_map of_attempt logs)
   attempt_moments x start at n [] follows = omega arith
   attempt_moments x start at n (log ∷ logs) follows =
       climbs_on at log.span.to (attempts_end log.span.to logs) (of_attempt log) (flat_map of_attempt logs)

@@ -22,7 +22,7 @@ use Rattle.cbt_book.specs.declared.clients.AttemptLog.{AttemptLog}
 use Rattle.cbt_book.specs.declared.operations.OpLog.{OpLog}
 use Rattle.cbt_core.specs.OpCalls.{OpCalls}
 use Rattle.cbt_core.specs.Operations.{OpsFollow, ops_end, is_good}
-use Rattle.cbt_core.specs.Walk.{Trying, Sofar, nothing_yet, request_of, walked}
+use Rattle.cbt_core.specs.Walk.{AttemptTerms, Sofar, nothing_yet, request_of, walked}
 
 -- answered Failed or Decided: the actor does not know what became of its commit
 abbrev pub IsInDoubt : Reply → Type 0
@@ -40,6 +40,7 @@ Settles a m = (commits m.step ≡ Some a) ⊎ ((r : ℕ) × (m.step ≡ step.Rea
 abbrev pub CommitLists : ℕ → List ℕ → List Made → Type 0
 CommitLists a d past = Kept (λ m _. (r : ℕ) × (lists : Lists) × (m.step ≡ step.Commit r a lists) × IsListed d lists) (λ m _. commits m.step ≡ Some a) past
 
+-- the attempt's abort lists document d
 abbrev pub AbortLists : ℕ → List ℕ → List Made → Type 0
 AbortLists a d past = Once (λ m _. (r : ℕ) × (lists : Lists) × (m.step ≡ step.Abort r a lists) × IsListed d lists) past
 
@@ -49,6 +50,7 @@ resolves (step.Publish d x body) = Some d
 resolves (step.Delete d x) = Some d
 resolves _ = None
 
+-- the attempt whose entry a step drops
 abbrev pub drops : Step → Option ℕ
 drops (step.DropEntry r a guarded) = Some a
 drops _ = None
@@ -85,18 +87,19 @@ pub record Course : Type 0 where
   pub cut : List Made
   pub closing : List Made
 
-abbrev pub course_of : Trying → AttemptLog → List Made → List Made → Course
+-- an attempt with this log, whose calls after the answered operations are these
+abbrev pub course_of : AttemptTerms → AttemptLog → List Made → List Made → Course
 course_of t log cut closing =
     record { log = log; sofar = walked t.plan.ops log.ops nothing_yet; left = drop (length log.ops) t.plan.ops; cut = cut; closing = closing }
 
 -- its newest call of an operation came back after the transaction's time
-abbrev pub IsLate : Trying → List Made → Type 0
+abbrev pub IsLate : AttemptTerms → List Made → Type 0
 IsLate t [] = ⊥
 IsLate t (m ∷ older) = t.latest < m.answer.now
 
 -- an operation was cut off by expiry, or by a stop before anything followed: its calls are those of the next operation, and only
 -- the newest may be late
-pub record IsCut (t : Trying) (c : Course) (newest : Made) (older : List Made) : Type 0 where
+pub record IsCut (t : AttemptTerms) (c : Course) (newest : Made) (older : List Made) : Type 0 where
   pub next : Op
   pub rest : List Op
   pub left_is : c.left ≡ next ∷ rest
@@ -106,7 +109,8 @@ pub record IsCut (t : Trying) (c : Course) (newest : Made) (older : List Made) :
   pub answered : Each (λ m _. m.answer.reply ≢ reply.Failed) older
   pub why : (t.latest < newest.answer.now) ⊎ ((c.log.end ≡ attempt_end.Stopped) × (c.closing ≡ []))
 
-abbrev pub CutFollows : Trying → Course → List Made → Type 0
+-- the calls after the answered operations are of one that was cut off, where there are any
+abbrev pub CutFollows : AttemptTerms → Course → List Made → Type 0
 CutFollows t c [] = Unit {0}
 CutFollows t c (m ∷ older) = IsCut t c m older
 
@@ -118,13 +122,13 @@ pub data HasEnded (c : Course) : Type 0 where
   stopped : c.log.end ≡ attempt_end.Stopped → HasEnded c
 
 -- an attempt may be committed where all its operations were answered well, and its plan keeps them
-pub record MayKeep (t : Trying) (c : Course) : Type 0 where
+pub record MayKeep (t : AttemptTerms) (c : Course) : Type 0 where
   pub all : c.left ≡ []
   pub good : all_good c.log.ops ≡ true
   pub keep : t.plan.keep ≡ true
 
 -- why an attempt is rolled back
-pub data MayRollBack (t : Trying) (c : Course) : Type 0 where
+pub data MayRollBack (t : AttemptTerms) (c : Course) : Type 0 where
   for_answer : LastIs (λ log. is_good log.answer ≡ false) c.log.ops → MayRollBack t c
   for_time : IsLate t c.cut → MayRollBack t c
   for_plan : c.left ≡ [] → all_good c.log.ops ≡ true → t.plan.keep ≡ false → MayRollBack t c
@@ -169,7 +173,7 @@ pub data IsUndone (a : ℕ) (calls closing : List Made) : Type 0 where
   dropped : Once (λ m before. ((r : ℕ) × (m.step ≡ step.DropEntry r a false)) × IsDropped m.answer.reply × HasAborted a before) closing → IsUndone a calls closing
 
 -- how an attempt may end; its calls are those of its whole span
-abbrev pub Ends : Trying → Course → List Made → AttemptEnd → Type 0
+abbrev pub Ends : AttemptTerms → Course → List Made → AttemptEnd → Type 0
 Ends t c calls (attempt_end.Committed place complete) = MayKeep t c × CommitHolds t.id place c.closing × IsFinished t.id c.closing complete
 Ends t c calls attempt_end.Empty = MayKeep t c × (c.closing ≡ []) × Each (λ m _. adds m.step ≢ Some t.id) calls
 Ends t c calls attempt_end.RolledBack = MayRollBack t c × IsUndone t.id calls c.closing
@@ -184,7 +188,7 @@ Ends t c calls (attempt_end.Incomplete place) = MayRollBack t c
 Ends t c calls attempt_end.Stopped = Unit {0}
 
 -- the log of an attempt
-pub record AttemptFollows (t : Trying) (l : List Made) (at : ℕ) (log : AttemptLog) : Type 0 where
+pub record AttemptFollows (t : AttemptTerms) (l : List Made) (at : ℕ) (log : AttemptLog) : Type 0 where
   pub id : log.id ≡ t.id
   pub spanned : IsSpan l at log.span
   pub ops : OpsFollow t l at 1 nothing_yet t.plan.ops log.ops

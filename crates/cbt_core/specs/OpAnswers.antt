@@ -21,7 +21,7 @@ use Rattle.cbt_book.specs.declared.operations.OpAnswer.{OpAnswer}
 use Rattle.cbt_book.specs.declared.operations.OpAnswer.TheVariants as answer
 use Rattle.cbt_book.specs.declared.operations.When.{When}
 use Rattle.cbt_book.specs.declared.operations.When.TheVariants as when
-use Rattle.cbt_core.specs.Walk.{Trying, Sofar, OwnWrite, LastRead, Request, Reads, Writes, kind_over, own_kind}
+use Rattle.cbt_core.specs.Walk.{AttemptTerms, Sofar, OwnWrite, LastRead, Request, Reads, Writes, kind_over, own_kind}
 
 -- an insert wants no value, a replace and a remove want one
 abbrev pub agrees : OpKind → Option Json → Bool
@@ -29,6 +29,7 @@ agrees Insert value = is_none value
 agrees Replace value = is_some value
 agrees Remove value = is_some value
 
+-- whether the attempt's last reading of a document agrees
 abbrev pub agrees_last : OpKind → Option LastRead → Bool
 agrees_last kind None = false
 agrees_last kind (Some last) = agrees kind last.value
@@ -60,13 +61,13 @@ is_restaged Remove Replace = true
 is_restaged Remove _ = false
 
 -- the staging carries this write of the attempt
-pub record Carries (t : Trying) (so : Sofar) (d : List ℕ) (kind : OpKind) (content : Option Json) (stage : Stage) : Type 0 where
+pub record Carries (t : AttemptTerms) (so : Sofar) (d : List ℕ) (kind : OpKind) (content : Option Json) (stage : Stage) : Type 0 where
   pub attempt : stage.attempt ≡ t.id
   pub kind_is : stage.kind ≡ kind_over kind (own_kind (so.own d))
   pub content_is : stage.content ≡ content
 
 -- the step stages the write over what it stands on, which is its base
-pub data StagesOver (t : Trying) (l : List Made) (so : Sofar) (d : List ℕ) (kind : OpKind) (content : Option Json) (calls : List Made) (base : When) (st : Step) : Type 0 where
+pub data StagesOver (t : AttemptTerms) (l : List Made) (so : Sofar) (d : List ℕ) (kind : OpKind) (content : Option Json) (calls : List Made) (base : When) (st : Step) : Type 0 where
   over_reading : (it : Reading) (stage : Stage) → so.own d ≡ None → StandsOn l so d kind it calls → base ≡ when.At it.moment
       → Carries t so d kind content stage → st ≡ step.Stage d (expected it.cas) stage → StagesOver t l so d kind content calls base st
   over_own : (w : OwnWrite) (x : ℕ) (stage : Stage) → so.own d ≡ Some w → is_restaged kind w.kind ≡ true → HasCas l d w x → base ≡ when.Own
@@ -94,6 +95,7 @@ pub record EndsFailed (place : ℕ) (calls : List Made) : Type 0 where
   pub failed : newest.answer.reply ≡ reply.Failed
   pub place_is : newest.answer.place ≡ place
 
+-- whether a staging or an unstick was refused by the document
 abbrev pub is_refusal : Reply → Bool
 is_refusal (reply.CasMismatch have) = true
 is_refusal reply.Exists = true
@@ -101,7 +103,7 @@ is_refusal reply.Absent = true
 is_refusal _ = false
 
 -- the newest call was the write, and was refused, since the document had changed
-pub record IsMoved (t : Trying) (l : List Made) (so : Sofar) (d : List ℕ) (kind : OpKind) (content : Option Json) (calls : List Made) : Type 0 where
+pub record IsMoved (t : AttemptTerms) (l : List Made) (so : Sofar) (d : List ℕ) (kind : OpKind) (content : Option Json) (calls : List Made) : Type 0 where
   pub newest : Made
   pub older : List Made
   pub calls_are : calls ≡ newest ∷ older
@@ -157,7 +159,7 @@ GetAnswered so d calls (answer.CallFailed place) = EndsFailed place calls
 GetAnswered so d calls _ = ⊥
 
 -- a write may be answered so
-abbrev pub WriteAnswered : Trying → List Made → Sofar → List ℕ → OpKind → Option Json → List Made → OpAnswer → Type 0
+abbrev pub WriteAnswered : AttemptTerms → List Made → Sofar → List ℕ → OpKind → Option Json → List Made → OpAnswer → Type 0
 WriteAnswered t l so d kind content calls (answer.Staged place base) =
     Once (λ m _. DoneAt place m × StagesOver t l so d kind content calls base m.step) calls
 WriteAnswered t l so d kind content calls (answer.Unstaged place) = Once (λ m _. DoneAt place m × TakesBack l so d kind m.step) calls
@@ -177,7 +179,7 @@ IsBadValue part calls (answer.BadValue named) = (named ≡ part) × (calls ≡ [
 IsBadValue part calls _ = ⊥
 
 -- an operation's answer is one that it can have, with its cause
-abbrev pub Answered : Trying → List Made → Sofar → Request → List Made → OpAnswer → Type 0
+abbrev pub Answered : AttemptTerms → List Made → Sofar → Request → List Made → OpAnswer → Type 0
 Answered t l so (Reads d name) calls a = GetAnswered so d calls a
 Answered t l so (Writes d kind (Ok content)) calls a = WriteAnswered t l so d kind content calls a
 Answered t l so (Writes d kind (Err part)) calls a = IsBadValue part calls a

@@ -8,20 +8,24 @@ use Rattle.cbt_model.specs.declared.steps.Reply.TheVariants as reply
 use Rattle.cbt_model.specs.declared.steps.Step.{Step}
 use Rattle.cbt_model.specs.declared.steps.Step.TheVariants as step
 use Rattle.cbt_book.specs.OwnLists.{Once, Each}
-use Rattle.cbt_core.specs.Walk.{Trying, Request, Reads, Writes}
+use Rattle.cbt_core.specs.Walk.{AttemptTerms, Request, Reads, Writes}
 
+-- whether a step reads a document
 abbrev pub reads_doc : Step → Bool
 reads_doc (step.ReadDoc d) = true
 reads_doc _ = false
 
+-- whether a step reads an entry
 abbrev pub reads_entry : Step → Bool
 reads_entry (step.ReadEntry r a) = true
 reads_entry _ = false
 
+-- whether a step adds an entry
 abbrev pub adds_entry : Step → Bool
 adds_entry (step.AddEntry r a exp) = true
 adds_entry _ = false
 
+-- whether a step stages a document or takes a staging back
 abbrev pub writes_doc : Step → Bool
 writes_doc (step.Stage d e stage) = true
 writes_doc (step.Unstick d x) = true
@@ -37,6 +41,7 @@ abbrev pub shown_cas : Reply → Option ℕ
 shown_cas (reply.Doc x body stage) = Some x
 shown_cas _ = None
 
+-- whether a CAS is there and is this one
 abbrev pub is_cas : ℕ → Option ℕ → Bool
 is_cas x None = false
 is_cas x (Some y) = y == x
@@ -52,6 +57,7 @@ abbrev pub count_met : List Reply → ℕ
 count_met [] = 0
 count_met (r ∷ before) = (if is_met_anew (staged_cas r) before then 1 else 0) + count_met before
 
+-- the answer to a reading of a document
 abbrev pub doc_reply : Made → Option Reply
 doc_reply m = if reads_doc m.step then Some m.answer.reply else None
 
@@ -66,7 +72,7 @@ MayGet d (step.ReadEntry r a) = Unit {0}
 MayGet d _ = ⊥
 
 -- a write does so too, and adds its attempt's entry to the record of its document, stages it, or takes an own staging back
-abbrev pub MayWrite : Trying → List ℕ → Step → Type 0
+abbrev pub MayWrite : AttemptTerms → List ℕ → Step → Type 0
 MayWrite t d (step.ReadDoc q) = q ≡ d
 MayWrite t d (step.ReadEntry r a) = Unit {0}
 MayWrite t d (step.AddEntry r a exp) = (a ≡ t.id) × (r ≡ fnv_1a d % t.atrs) × (exp ≡ t.plan.hold)
@@ -81,13 +87,14 @@ pub record GetCalls (d : List ℕ) (calls : List Made) : Type 0 where
   pub entries : count_by (λ m. reads_entry m.step) calls ≤ stagings_met calls
 
 -- so are those of a write, which may wait for an entry four times, and writes by its last call
-pub record WriteCalls (t : Trying) (d : List ℕ) (calls : List Made) : Type 0 where
+pub record WriteCalls (t : AttemptTerms) (d : List ℕ) (calls : List Made) : Type 0 where
   pub only : Each (λ m _. MayWrite t d m.step) calls
   pub readings : count_by (λ m. reads_doc m.step) calls ≤ suc (stagings_met calls)
   pub entries : count_by (λ m. reads_entry m.step) calls ≤ stagings_met calls + 4
   pub added : count_by (λ m. adds_entry m.step) calls ≤ 1
   pub written_last : Each (λ m before. ¬ Once (λ n _. writes_doc n.step ≡ true) before) calls
 
-abbrev pub OpCalls : Trying → Request → List Made → Type 0
+-- the calls of an operation that asks for this
+abbrev pub OpCalls : AttemptTerms → Request → List Made → Type 0
 OpCalls t (Reads d name) calls = GetCalls d calls
 OpCalls t (Writes d kind content) calls = WriteCalls t d calls

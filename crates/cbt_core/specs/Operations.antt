@@ -14,7 +14,7 @@ use Rattle.cbt_book.specs.declared.operations.OpLog.{OpLog}
 use Rattle.cbt_book.specs.declared.operations.When.{When}
 use Rattle.cbt_core.specs.OpAnswers.{Answered}
 use Rattle.cbt_core.specs.OpCalls.{OpCalls}
-use Rattle.cbt_core.specs.Walk.{Trying, Sofar, request_of, noted}
+use Rattle.cbt_core.specs.Walk.{AttemptTerms, Sofar, request_of, noted}
 
 -- a staging or an unstick that was answered Done at this place is what the operation was answered for
 abbrev pub StandsAt : ℕ → OpAnswer → Step → Type 0
@@ -23,7 +23,7 @@ StandsAt place a (step.Unstick d x) = a ≡ answer.Unstaged place
 StandsAt place a _ = Unit {0}
 
 -- the log of an operation of an attempt, the n-th, after so much
-pub record OpFollows (t : Trying) (l : List Made) (at n : ℕ) (so : Sofar) (o : Op) (log : OpLog) : Type 0 where
+pub record OpFollows (t : AttemptTerms) (l : List Made) (at n : ℕ) (so : Sofar) (o : Op) (log : OpLog) : Type 0 where
   pub counted : log.op ≡ n
   pub spanned : IsSpan l at log.span
   pub answered : Answered t l so (request_of so.bound o) (during log.span l) log.answer
@@ -49,7 +49,7 @@ GoesOn log [] = Unit {0}
 GoesOn log (next ∷ logs) = is_good log.answer ≡ true
 
 -- the logs of an attempt's operations, in their order
-abbrev pub OpsFollow : Trying → List Made → ℕ → ℕ → Sofar → List Op → List OpLog → Type 0
+abbrev pub OpsFollow : AttemptTerms → List Made → ℕ → ℕ → Sofar → List Op → List OpLog → Type 0
 OpsFollow t l at n so ops [] = Unit {0}
 OpsFollow t l at n so [] (log ∷ logs) = ⊥
 OpsFollow t l at n so (o ∷ ops) (log ∷ logs) = OpFollows t l at n so o log × GoesOn log logs × OpsFollow t l log.span.to (suc n) (noted o log so) ops logs

@@ -65,6 +65,7 @@ abbrev pub AnswersRight : Case → Book → Type 0
 AnswersRight case book = (client txn try_no n : ℕ) (o : Op) (log : OpLog) (so : Sofar) → IsAnswer case book client txn try_no n o log so
     → IsRightWhen case book so (doc_of o) log.span log.answer (read_when log.answer)
 
+-- the moment of an answer, where it has one
 abbrev pub moment_at : Option When → Option ℕ
 moment_at (Some (when.At t)) = Some t
 moment_at _ = None

@@ -29,9 +29,11 @@ own_of book actor = own book.kept.opening book.kept.history actor (length book.k
 abbrev pub identity_of : Case → ℕ → Identity
 identity_of case actor = record { number = actor; cleaner = cleaner_number (actor - length case.plans) }
 
+-- under what the node of a case makes its calls
 abbrev pub terms_of : Case → Terms
 terms_of case = record { faults = case.faults; line = case.line }
 
+-- how many sweeps there are
 abbrev pub sweeps : Option ℕ → ℕ
 sweeps None = 0
 sweeps (Some ms) = 1

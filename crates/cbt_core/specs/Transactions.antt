@@ -16,10 +16,10 @@ use Rattle.cbt_book.specs.declared.operations.OpAnswer.{OpAnswer}
 use Rattle.cbt_book.specs.declared.operations.OpAnswer.TheVariants as answer
 use Rattle.cbt_book.specs.declared.operations.When.{When}
 use Rattle.cbt_core.specs.Attempts.{AttemptFollows, LastIs, all_good}
-use Rattle.cbt_core.specs.Walk.{Trying}
+use Rattle.cbt_core.specs.Walk.{AttemptTerms}
 
--- a transaction that is made: by which client, with which number, by which plan, and with how many transaction records
-pub record Making : Type 0 where
+-- under what a transaction is made: by which client, with which number, by which plan, and with how many transaction records
+pub record TxnTerms : Type 0 where
   pub client : ℕ
   pub number : ℕ
   pub plan : TxnPlan
@@ -31,9 +31,9 @@ start_of [] = 0
 start_of (m ∷ []) = m.answer.now
 start_of (m ∷ next ∷ older) = start_of (next ∷ older)
 
--- the n-th try of a transaction that began at this time
-abbrev pub trying : Making → ℕ → ℕ → Trying
-trying x start n = record { id = attempt_number x.client x.number n; plan = x.plan; atrs = x.atrs; latest = start + x.plan.expiry }
+-- under what the n-th try is made, of a transaction that began at this time
+abbrev pub attempt_terms : TxnTerms → ℕ → ℕ → AttemptTerms
+attempt_terms x start n = record { id = attempt_number x.client x.number n; plan = x.plan; atrs = x.atrs; latest = start + x.plan.expiry }
 
 -- the answers after which a transaction is tried again
 abbrev pub is_retried : OpAnswer → Bool
@@ -49,11 +49,12 @@ pub data IsRetried (log : AttemptLog) : Type 0 where
   after_commits : log.end ≡ attempt_end.RolledBack → log.not_committed ≡ true → IsRetried log
   after_loss : (place : ℕ) → log.end ≡ attempt_end.EntryLost place → IsRetried log
 
--- the time of the newest call before a place
+-- the time of the newest of these calls
 abbrev pub newest_now : List Made → ℕ
 newest_now [] = 0
 newest_now (m ∷ older) = m.answer.now
 
+-- the time of the last own answer before this place
 abbrev pub now_before : List Made → ℕ → ℕ
 now_before l place = newest_now (during (record { from = 0; to = place }) l)
 
@@ -63,10 +64,10 @@ TriesOn l latest log [] = Unit {0}
 TriesOn l latest log (next ∷ logs) = IsRetried log × (now_before l log.span.to ≤ latest)
 
 -- the tries of a transaction, in their order, from the n-th on
-abbrev pub AttemptsFollow : Making → List Made → ℕ → ℕ → ℕ → List AttemptLog → Type 0
+abbrev pub AttemptsFollow : TxnTerms → List Made → ℕ → ℕ → ℕ → List AttemptLog → Type 0
 AttemptsFollow x l start at n [] = Unit {0}
 AttemptsFollow x l start at n (log ∷ logs) =
-    AttemptFollows (trying x start n) l at log × TriesOn l (start + x.plan.expiry) log logs × AttemptsFollow x l start log.span.to (suc n) logs
+    AttemptFollows (attempt_terms x start n) l at log × TriesOn l (start + x.plan.expiry) log logs × AttemptsFollow x l start log.span.to (suc n) logs
 
 -- one past the last place of attempts that begin at `at`
 abbrev pub attempts_end : ℕ → List AttemptLog → ℕ
@@ -80,7 +81,7 @@ LastTry P (log ∷ []) = P log
 LastTry P (log ∷ next ∷ logs) = LastTry P (next ∷ logs)
 
 -- all operations of the attempt were answered well
-pub record AnsweredWell (x : Making) (log : AttemptLog) : Type 0 where
+pub record AnsweredWell (x : TxnTerms) (log : AttemptLog) : Type 0 where
   pub all : length log.ops ≡ length x.plan.ops
   pub good : all_good log.ops ≡ true
 
@@ -97,23 +98,23 @@ pub data Refuses : OpAnswer → Why → Type 0 where
   bad_value : (part : ℕ) → Refuses (answer.BadValue part) why.BadValue
 
 -- a further try is due, and there is one left
-pub record HasTry (x : Making) (attempts : List AttemptLog) : Type 0 where
+pub record HasTry (x : TxnTerms) (attempts : List AttemptLog) : Type 0 where
   pub retried : LastTry IsRetried attempts
   pub left : length attempts < x.plan.tries
 
 -- a transaction without a cause to end otherwise expired: an operation was cut off, or the time of a further try was past
-pub data IsExpiredAt (x : Making) (l : List Made) (latest : ℕ) (attempts : List AttemptLog) (now : ℕ) : Type 0 where
+pub data IsExpiredAt (x : TxnTerms) (l : List Made) (latest : ℕ) (attempts : List AttemptLog) (now : ℕ) : Type 0 where
   in_operation : LastTry (λ log. (log.end ≡ attempt_end.RolledBack) × CutAt l latest now log) attempts → IsExpiredAt x l latest attempts now
   before_try : HasTry x attempts → LastTry (λ log. now_before l log.span.to ≡ now) attempts → latest < now → IsExpiredAt x l latest attempts now
 
 -- a transaction was stopped: before its first call, in its last attempt, or before a further try
-pub data IsStopped (x : Making) (attempts : List AttemptLog) : Type 0 where
+pub data IsStopped (x : TxnTerms) (attempts : List AttemptLog) : Type 0 where
   unbegun : attempts ≡ [] → IsStopped x attempts
   in_attempt : LastTry (λ log. log.end ≡ attempt_end.Stopped) attempts → IsStopped x attempts
   before_try : HasTry x attempts → IsStopped x attempts
 
 -- how a transaction may end, `latest` being the last time at which it goes on
-abbrev pub EndsTxn : Making → List Made → ℕ → List AttemptLog → TxnEnd → Type 0
+abbrev pub EndsTxn : TxnTerms → List Made → ℕ → List AttemptLog → TxnEnd → Type 0
 EndsTxn x l latest attempts (txn_end.Committed complete) = LastTry (λ log. (place : ℕ) × (log.end ≡ attempt_end.Committed place complete)) attempts
 EndsTxn x l latest attempts txn_end.Empty = LastTry (λ log. log.end ≡ attempt_end.Empty) attempts
 EndsTxn x l latest attempts txn_end.RolledBack =
@@ -127,7 +128,7 @@ EndsTxn x l latest attempts (txn_end.CallFailed place) = LastTry (λ log. log.en
 EndsTxn x l latest attempts txn_end.Stopped = IsStopped x attempts
 
 -- the log of a transaction
-pub record TxnFollows (x : Making) (l : List Made) (at : ℕ) (log : TxnLog) : Type 0 where
+pub record TxnFollows (x : TxnTerms) (l : List Made) (at : ℕ) (log : TxnLog) : Type 0 where
   -- the time of its first answer
   pub start : ℕ
   pub start_is : start ≡ start_of (during (record { from = at; to = attempts_end at log.attempts }) l)

@@ -15,9 +15,9 @@ use Rattle.cbt_book.specs.declared.operations.OpLog.{OpLog}
 use Rattle.cbt_book.specs.declared.operations.Span.{Span}
 use Rattle.cbt_book.specs.declared.operations.When.TheVariants as when
 
--- an attempt that is made: its identifier, the plan of its transaction, the number of transaction records, and the last time,
+-- under what an attempt is made: its identifier, the plan of its transaction, the number of transaction records, and the last time,
 -- in milliseconds, at which its transaction goes on
-pub record Trying : Type 0 where
+pub record AttemptTerms : Type 0 where
   pub id : ℕ
   pub plan : TxnPlan
   pub atrs : ℕ
@@ -45,6 +45,7 @@ pub record Sofar : Type 0 where
   pub own : List ℕ → Option OwnWrite
   pub read : List ℕ → Option LastRead
 
+-- at the beginning of an attempt
 abbrev pub nothing_yet : Sofar
 nothing_yet = record { bound = λ name. None; own = λ d. None; read = λ d. None }
 
@@ -54,10 +55,12 @@ pub data Request : Type 0 where
   Reads : List ℕ → List ℕ → Request
   Writes : List ℕ → OpKind → Result (Option Json) ℕ → Request
 
+-- the content of a write with this value
 abbrev pub content_of : Result Json ℕ → Result (Option Json) ℕ
 content_of (Ok value) = Ok (Some value)
 content_of (Err part) = Err part
 
+-- what an operation asks for, over what the gets before it have bound
 abbrev pub request_of : (List ℕ → Option Json) → Op → Request
 request_of bound (op.Get d name) = Reads d name
 request_of bound (op.Insert d value) = Writes d Insert (content_of (value_of bound value))
@@ -74,22 +77,26 @@ kind_over Replace (Some Insert) = Insert
 kind_over Replace (Some k) = Replace
 kind_over Remove k = Remove
 
+-- the kind of an own write, where there is one
 abbrev pub own_kind : Option OwnWrite → Option OpKind
 own_kind None = None
 own_kind (Some w) = Some w.kind
 
+-- what the answer to a get adds
 abbrev pub noted_get : List ℕ → List ℕ → Span → OpAnswer → Sofar → Sofar
 noted_get d name span (answer.Value value when.Own) so = record so { bound = with_value name value so.bound }
 noted_get d name span (answer.Value value (when.At t)) so =
     record so { bound = with_value name value so.bound; read = with_value d (Some (record { span = span; value = value; moment = t })) so.read }
 noted_get d name span _ so = so
 
+-- what the answer to a write adds
 abbrev pub noted_write : List ℕ → OpKind → Option Json → OpAnswer → Sofar → Sofar
 noted_write d kind content (answer.Staged place base) so =
     record so { own = with_value d (Some (record { kind = kind_over kind (own_kind (so.own d)); content = content; place = place })) so.own }
 noted_write d kind content (answer.Unstaged place) so = record so { own = with_value d None so.own; read = with_value d None so.read }
 noted_write d kind content _ so = so
 
+-- what an answer to this request adds
 abbrev pub noted_as : Request → Span → OpAnswer → Sofar → Sofar
 noted_as (Reads d name) span a so = noted_get d name span a so
 noted_as (Writes d kind (Ok content)) span a so = noted_write d kind content a so

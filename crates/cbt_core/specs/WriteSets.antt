@@ -33,13 +33,15 @@ txn_at logs client txn = option_and_then (λ c. numbered c.txns txn) (numbered l
 abbrev pub attempt_at : List ClientLog → ℕ → ℕ → ℕ → Option AttemptLog
 attempt_at logs client txn try_no = option_and_then (λ t. numbered t.attempts try_no) (txn_at logs client txn)
 
--- the plan and the log of an attempt, by the numbers in its identifier
+-- the plan of an attempt's transaction, by the numbers in its identifier
 abbrev pub plan_of : List ClientPlan → ℕ → Option TxnPlan
 plan_of plans a = plan_at plans (client_of a) (txn_of a)
 
+-- the log of an attempt, by the numbers in its identifier
 abbrev pub log_of : List ClientLog → ℕ → Option AttemptLog
 log_of logs a = attempt_at logs (client_of a) (txn_of a) (try_of a)
 
+-- the own writes of an attempt with this plan and this log; without them it has none
 abbrev pub own_writes_by : Option TxnPlan → Option AttemptLog → List ℕ → Option OwnWrite
 own_writes_by (Some plan) (Some log) d = own_writes plan.ops log.ops d
 own_writes_by _ _ d = None

@@ -1,0 +1,397 @@
+-- A staging is late; the attempt is rolled back with it, and tried again.
+use Rattle.std.proofs.Common.{◌≡◌, ◌≢◌, ℕ, suc, true, false, ◌==◌, inl, inr, [], ◌∷◌, length, Some, None, refl, sym, subst, lit≤, lit<, slice_get, ◌+◌, ◌<◌, ◌≤◌, ◌^◌}
+use Rattle.std.specs.List.Sorted.{IsStrictlySortedBy}
+use Rattle.cbt_base.specs.Clock.{clock_of}
+use Rattle.cbt_base.specs.Ids.{attempt_number}
+use Rattle.cbt_model.specs.Faults.{fate_of}
+use Rattle.cbt_model.specs.Fitting.{step_fits}
+use Rattle.cbt_model.specs.History.{is_done, commits}
+use Rattle.cbt_model.specs.Legal.{calls_below, line_due, ahead_at}
+use Rattle.cbt_base.specs.Clock.{held}
+use Rattle.cbt_model.specs.Table.{row}
+use Rattle.cbt_model.specs.declared.documents.OpKind.TheVariants.{Replace}
+use Rattle.cbt_model.specs.declared.events.Event.{Event}
+use Rattle.cbt_model.specs.declared.steps.Expect.TheVariants as expect
+use Rattle.cbt_model.specs.declared.steps.Step.TheVariants as step
+use Rattle.cbt_book.specs.Cleaners as cleaners
+use Rattle.cbt_book.specs.Licence as licence
+use Rattle.cbt_book.specs.Licence.{IsLicensed, MayTake}
+use Rattle.cbt_book.specs.OwnLists.{Once, In}
+use Rattle.cbt_book.specs.ReadAt as ways
+use Rattle.cbt_book.specs.Shown as shown
+use Rattle.cbt_book.specs.Shown.{adds, aborts, decides}
+use Rattle.cbt_book.specs.Spans as spans
+use Rattle.cbt_expr.specs.declared.plans.Op.TheVariants as op
+use Rattle.cbt_book.specs.declared.operations.When.TheVariants as when
+use Rattle.cbt_core.specs.Attempts as attempts
+use Rattle.cbt_core.specs.Attempts.{drops}
+use Rattle.cbt_core.specs.Clients.{FollowsPlan}
+use Rattle.cbt_core.specs.OpAnswers as answers
+use Rattle.cbt_core.specs.Operations as operations
+use Rattle.cbt_core.specs.Runs.{IsFresh, own_of, identity_of, IsLegalRun, AreLicensed, LogsFollow, cleaner_plan}
+use Rattle.cbt_core.specs.Transactions as transactions
+use Rattle.cbt_core.specs.Walk as walk
+use Rattle.cbt_core.specs.WriteSets.{numbered}
+use Rattle.cbt_rows.proofs.Fits.{fits-n2}
+use Rattle.cbt_rows.proofs.Named.{found-all, both_numbered, nothing, all_listed, named, named-abort, all_from, own-none, all_numbered, all_planned, one_value, not_me, ◌▸◌, ◌▹◌, by_number}
+use Rattle.cbt_rows.proofs.Never.{never_of, none_settled, done, not_of, differ, never_writes, never_resolved, never_read, not_third, unfailed, no_bool, never_unstuck}
+use Rattle.cbt_rows.specs.Words.{HasValue, doc_a, n, stage_of, lists_of}
+use Rattle.cbt_rows.specs.LateStageIsRolledBack.{opening, past_0, past_1, past_2, past_4, past_5, past_7, past_8, past_9, past_10, past_11, history, marks, plans, run_case, book, e1, e2, e3, e5, e6, e8, e9, e10, e11, e12, m0, m1, m2, m3, m4, m5, m6, m7, m8, m9, m10, m11, m12, made_1, plan_1_1, client_1, attempt_1_1_1, attempt_1_1_2, op_1_1_1_1, op_1_1_2_1}
+
+own-1 : own_of book 1 ≡ made_1
+unfolding row clock_of
+own-1 = refl
+
+pub fresh : IsFresh opening
+unfolding IsStrictlySortedBy
+fresh = record {
+  ordered = record { docs = (tt, tt); entries = tt; clients = tt };
+  entries = refl;
+  clients = refl;
+  unstaged = found-all (λ x. x.stage ≡ None) opening.docs (refl ▸ tt);
+  low = found-all (λ x. x.cas ≤ opening.last) opening.docs (lit≤ tt ▸ tt);
+}
+
+fates : (i : ℕ) (e : Event) → slice_get history i ≡ Some e → e.fate ≡ fate_of run_case.faults e.actor (suc (calls_below history e.actor i))
+fates = all_from (λ i e. e.fate ≡ fate_of run_case.faults e.actor (suc (calls_below history e.actor i))) history (refl ▸ refl ▸ refl ▸ refl ▸ refl ▸
+    refl ▸ refl ▸ refl ▸ refl ▸ refl ▸ refl ▸ refl ▸ refl ▸ tt)
+
+fitting : (i : ℕ) (e : Event) → slice_get history i ≡ Some e → step_fits e.step ≡ true
+fitting = all_from (λ i e. step_fits e.step ≡ true) history (refl ▸ refl ▸ fits-n2 ▸ refl ▸ refl ▸ refl ▸ refl ▸ refl ▸ refl ▸ fits-n2 ▸ refl ▸
+    fits-n2 ▸ refl ▸ tt)
+
+readings : (i : ℕ) (e : Event) → slice_get history i ≡ Some e → e.reading ≡ held (line_due (1000, 1) i + ahead_at marks i)
+readings = all_from (λ i e. e.reading ≡ held (line_due (
+  1000,
+  1,
+) i + ahead_at marks i)) history (refl ▸ refl ▸ refl ▸ refl ▸ refl ▸ refl ▸ refl ▸ refl ▸ refl ▸ refl ▸ refl ▸ refl ▸ refl ▸ tt)
+
+actor-1 : (0 < 1) × (1 ≤ run_case.actors)
+actor-1 = (lit< tt, lit≤ tt)
+
+numbers : (i : ℕ) (e : Event) → slice_get history i ≡ Some e → (0 < e.actor) × (e.actor ≤ run_case.actors)
+numbers = all_from (λ i e. (0 < e.actor) × (e.actor ≤ run_case.actors)) history (actor-1 ▸ actor-1 ▸ actor-1 ▸ actor-1 ▸ actor-1 ▸ actor-1 ▸ actor-1
+    ▸ actor-1 ▸ actor-1 ▸ actor-1 ▸ actor-1 ▸ actor-1 ▸ actor-1 ▸ tt)
+
+pub legal : IsLegalRun run_case book
+legal = record {
+  limits = record {
+    txns = all_numbered (λ k plan. length plan.txns < 2 ^ 16) plans (lit< tt ▸ tt);
+    tries = all_planned (λ plan. plan.tries < 2 ^ 32) plans ((lit< tt ▸ tt) ▸ tt);
+    actors = refl;
+  };
+  opening = refl;
+  history = record {
+    keeps = record {
+      fates = fates;
+      fitting = fitting;
+      readings = λ line is. record {
+        each = λ i e at. one_value (λ it. e.reading ≡ held (line_due it i + ahead_at marks i)) (
+          1000,
+          1,
+        ) (readings i e at) line is;
+      };
+    };
+    numbered = numbers;
+  };
+}
+
+may-12 : MayTake (identity_of run_case 1) past_11 e12.step
+may-12 = record {
+  showing = m10;
+  shown = (lists_of [] (doc_a ∷ []) []);
+  due = (lists_of [] (doc_a ∷ []) []);
+  earlier = inr (inl refl);
+  decided = inl (shown.own_commit 1009975296 refl refl);
+  due_is = licence.of_own ((not_of decides (attempt_number 1 1 2) m11 refl ▹ inl (12, inl refl)));
+  cleared = all_listed (λ d. Once (λ m before. In m10 before × licence.Clears (attempt_number 1 1 2) m10 d m before) past_11) (lists_of [] (doc_a ∷
+      []) []) (
+        tt,
+        (inl (
+          inl refl,
+          licence.unstaged 1008992256 (licence.publishes (n 2) refl) refl (inr (inl (
+            (stage_of (attempt_number 1 1 2) 12 Replace (Some (n 2))),
+            refl,
+            shown.by_stage ((expect.Cas 1004994560), refl, refl),
+          ))),
+        ) ▸ tt),
+        tt,
+      );
+}
+
+may-11 : MayTake (identity_of run_case 1) past_10 e11.step
+may-11 = record {
+  stage = (stage_of (attempt_number 1 1 2) 12 Replace (Some (n 2)));
+  staged = inr (inl (shown.by_stage ((expect.Cas 1004994560), refl, refl)));
+  content_is = refl;
+  committed = inl ((lists_of [] (doc_a ∷ []) []), shown.own_commit 1009975296 refl refl);
+}
+
+may-10 : MayTake (identity_of run_case 1) past_9 e10.step
+may-10 = record {
+  written = (done (attempt_number 1 1 2) m9 _ refl ▹ inl (shown.added 15000 1007943680 refl refl));
+  unaborted = never_of aborts (attempt_number 1 1 2) past_9 refl;
+  named = named (attempt_number 1 1 2) (lists_of [] (doc_a ∷ []) []) past_9 (
+    tt,
+    (inl (
+      (expect.Cas 1004994560),
+      (stage_of (attempt_number 1 1 2) 12 Replace (Some (n 2))),
+      refl,
+      refl,
+      refl,
+    ) ▸ tt),
+    tt,
+  ) ((λ e. inl refl) ▸ tt ▸ tt ▸ tt ▸ tt ▸ tt ▸ tt ▸ (λ e. absurd (differ 79229975912217131574160785409 79229975912217131574160785410 refl e))
+      ▸ tt ▸ tt ▸ tt);
+  again = none_settled past_9 12 (attempt_number 1 1 2) refl;
+}
+
+may-9 : MayTake (identity_of run_case 1) past_8 e9.step
+may-9 = record {
+  added = inl (shown.added 15000 1007943680 refl refl);
+  undecided = never_of decides (attempt_number 1 1 2) past_8 refl;
+  over = licence.on_unstaged 1004994560 refl (inr (inl (Some (n 1), (refl, refl))));
+}
+
+may-8 : MayTake (identity_of run_case 1) past_7 e8.step
+may-8 = record { own = refl; first = never_of adds (attempt_number 1 1 2) past_7 refl }
+
+may-6 : MayTake (identity_of run_case 1) past_5 e6.step
+may-6 = record {
+  showing = m3;
+  shown = (lists_of [] (doc_a ∷ []) []);
+  due = (lists_of [] (doc_a ∷ []) []);
+  earlier = inr (inr (inl refl));
+  decided = inr (shown.own_abort 1002962944 refl refl);
+  due_is = licence.of_own ((not_of decides (attempt_number 1 1 1) m5 refl ▹ not_of decides (attempt_number 1 1 1) m4 refl ▹ inl (12, inr refl)));
+  cleared = all_listed (λ d. Once (λ m before. In m3 before × licence.Clears (attempt_number 1 1 1) m3 d m before) past_5) (lists_of [] (doc_a ∷ [])
+      []) (
+        tt,
+        (inl (
+          inr (inl refl),
+          licence.unstaged 1001979904 (licence.unsticks refl) refl (inl (
+            (stage_of (attempt_number 1 1 1) 12 Replace (Some (n 2))),
+            refl,
+            shown.by_read (Some (n 1)) (refl, refl),
+          )),
+        ) ▸ tt),
+        tt,
+      );
+}
+
+may-5 : MayTake (identity_of run_case 1) past_4 e5.step
+may-5 = licence.after_abort (stage_of (attempt_number 1 1 1) 12 Replace (Some (n 2))) (inl (shown.by_read (Some (n 1)) (
+  refl,
+  refl,
+))) (inr (inl ((lists_of [] (doc_a ∷ []) []), shown.own_abort 1002962944 refl refl)))
+
+may-3 : MayTake (identity_of run_case 1) past_2 e3.step
+may-3 = record {
+  sent = inr (inl (15000, refl));
+  first = never_of aborts (attempt_number 1 1 1) past_2 refl;
+  named = named-abort (attempt_number 1 1 1) (lists_of [] (doc_a ∷ []) []) (λ d m before. (x : ℕ) × (m.step ≡ step.Unstick d x) × (is_done
+      m.answer.reply ≡ true)) past_2 (inl (λ e. inl refl) ▸ inl tt ▸ inl tt ▸ tt);
+  after_commits = none_settled past_2 12 (attempt_number 1 1 1) refl;
+}
+
+may-2 : MayTake (identity_of run_case 1) past_1 e2.step
+may-2 = record {
+  added = inl (shown.added 15000 1000996864 refl refl);
+  undecided = never_of decides (attempt_number 1 1 1) past_1 refl;
+  over = licence.on_unstaged 1 refl (inr (inl (Some (n 1), (refl, refl))));
+}
+
+may-1 : MayTake (identity_of run_case 1) past_0 e1.step
+may-1 = record { own = refl; first = never_of adds (attempt_number 1 1 1) past_0 refl }
+
+licensed-1 : IsLicensed (identity_of run_case 1) made_1
+licensed-1 = (may-12 ▸ may-11 ▸ may-10 ▸ may-9 ▸ may-8 ▸ tt ▸ may-6 ▸ may-5 ▸ tt ▸ may-3 ▸ may-2 ▸ may-1 ▸ tt ▸ tt)
+
+abbrev IsFor : ℕ → Type 0
+IsFor actor = IsLicensed (identity_of run_case actor) (own_of book actor)
+
+unlicensed : (actor : ℕ) → actor ≢ 1 → IsFor actor
+unlicensed actor ne1 = subst (λ l. IsLicensed (identity_of run_case actor) l) (sym (own-none opening history actor (all_from (λ i e. (e.actor ==
+    actor) ≡ false) history (not_me 1 actor ne1 ▸ not_me 1 actor ne1 ▸ not_me 1 actor ne1 ▸ not_me 1 actor ne1 ▸ not_me 1 actor ne1 ▸ not_me 1 actor
+    ne1 ▸ not_me 1 actor ne1 ▸ not_me 1 actor ne1 ▸ not_me 1 actor ne1 ▸ not_me 1 actor ne1 ▸ not_me 1 actor ne1 ▸ not_me 1 actor ne1 ▸ not_me 1
+    actor ne1 ▸ tt)) (length history))) tt
+
+pub licensed : AreLicensed run_case book
+licensed actor = by_number IsFor 1 (subst (λ l. IsLicensed (identity_of run_case 1) l) (sym own-1) licensed-1) actor (λ ne1. unlicensed actor ne1)
+
+abbrev txn_1_1-terms : transactions.TxnTerms
+txn_1_1-terms = record { client = 1; number = 1; plan = plan_1_1; atrs = 16 }
+
+op_1_1_1_1-follows : operations.OpFollows (transactions.attempt_terms txn_1_1-terms 1000 1) made_1 0 1 walk.nothing_yet (op.Replace doc_a (record {
+  value = n
+      2;
+})) op_1_1_1_1
+op_1_1_1_1-follows = record {
+  counted = refl;
+  spanned = record { follows = lit≤ tt; next = refl; ends = spans.with_calls m0 m2 (inr (inr (inl refl))) (inl refl) refl refl };
+  answered = record { newest = m2; older = past_1; calls_are = refl; failed = refl; place_is = refl };
+  calls = record {
+    only = ((refl, refl) ▸ (refl, refl, refl) ▸ refl ▸ tt);
+    readings = lit≤ tt;
+    entries = lit≤ tt;
+    added = lit≤ tt;
+    written_last = (never_writes past_1 refl ▸ never_writes past_0 refl ▸ never_writes [] refl ▸ tt);
+  };
+  stands = ((λ e. absurd (no_bool (sym e))) ▸ (λ e. tt) ▸ (λ e. tt) ▸ tt);
+  failed = ((λ e. refl) ▸ unfailed m1 refl ▸ unfailed m0 refl ▸ tt);
+  in_time = (lit≤ tt ▸ lit≤ tt ▸ lit≤ tt ▸ tt);
+}
+
+attempt_1_1_1-follows : attempts.AttemptFollows (transactions.attempt_terms txn_1_1-terms 1000 1) made_1 0 attempt_1_1_1
+attempt_1_1_1-follows = record {
+  id = refl;
+  spanned = record {
+    follows = lit≤ tt;
+    next = refl;
+    ends = spans.with_calls m0 m6 (inr (inr (inr (inr (inr (inr (inl refl))))))) (inl refl) refl refl;
+  };
+  ops = (op_1_1_1_1-follows, tt, tt);
+  held = lit≤ tt;
+  cut = [];
+  closing = (m6 ∷ m5 ∷ m4 ∷ m3 ∷ []);
+  rest = refl;
+  cut_follows = tt;
+  ended = attempts.last_refused refl;
+  closes = ((refl, inr (inr (inl refl)), never_of drops (attempt_number 1 1 1) (m5 ∷ m4 ∷ m3 ∷ []) refl) ▸ (
+    inr (inl (
+      12,
+      (lists_of [] (doc_a ∷ []) []),
+      refl,
+      (Replace, inl refl),
+    )),
+    never_unstuck doc_a (m4 ∷ m3 ∷ []) refl,
+  ) ▸ (
+    inl (
+      12,
+      (lists_of [] (doc_a ∷ []) []),
+      refl,
+      (Replace, inl refl),
+    ),
+    never_read doc_a (m3 ∷ []) refl,
+  ) ▸ (refl, never_of aborts (attempt_number 1 1 1) [] refl) ▸ tt);
+  may_commit = λ h. absurd (never_of commits (attempt_number 1 1 1) (m6 ∷ m5 ∷ m4 ∷ m3 ∷ []) refl h);
+  may_abort = λ h. attempts.for_answer refl;
+  third = ((λ e. absurd (no_bool (sym e))), λ h. absurd (not_third (attempt_number 1 1 1) (m6 ∷ m5 ∷ m4 ∷ m3 ∷ []) (lit≤ tt) h));
+  ends = (
+    attempts.for_answer refl,
+    attempts.dropped (inl ((12, refl), inl refl, inr (inr (inl refl)))),
+    ((λ h. unfailed m6 refl) ▸ (λ h. unfailed m5 refl) ▸ (λ h. unfailed m4 refl) ▸ (λ h. unfailed m3 refl) ▸ tt),
+  );
+}
+
+op_1_1_2_1-follows : operations.OpFollows (transactions.attempt_terms txn_1_1-terms 1000 2) made_1 7 1 walk.nothing_yet (op.Replace doc_a (record {
+  value = n
+      2;
+})) op_1_1_2_1
+op_1_1_2_1-follows = record {
+  counted = refl;
+  spanned = record { follows = lit≤ tt; next = refl; ends = spans.with_calls m7 m9 (inr (inr (inl refl))) (inl refl) refl refl };
+  answered = inl (
+    (refl, refl),
+    answers.over_reading (record {
+      value = Some (n 1);
+      cas = Some 1004994560;
+      by = None;
+      gone = false;
+      moment = 7;
+    }) (stage_of (attempt_number 1 1 2) 12 Replace (Some (n 2))) refl (answers.on_own refl (ways.unstaged 1004994560 refl refl refl (inr
+        (inr (inl (refl, (refl, refl)))))) refl) refl (record { attempt = refl; kind_is = refl; content_is = refl }) refl,
+  );
+  calls = record {
+    only = ((refl, refl) ▸ (refl, refl, refl) ▸ refl ▸ tt);
+    readings = lit≤ tt;
+    entries = lit≤ tt;
+    added = lit≤ tt;
+    written_last = (never_writes (m8 ∷ m7 ∷ []) refl ▸ never_writes (m7 ∷ []) refl ▸ never_writes [] refl ▸ tt);
+  };
+  stands = ((λ e. ((when.At 7), refl)) ▸ (λ e. tt) ▸ (λ e. tt) ▸ tt);
+  failed = (unfailed m9 refl ▸ unfailed m8 refl ▸ unfailed m7 refl ▸ tt);
+  in_time = (lit≤ tt ▸ lit≤ tt ▸ lit≤ tt ▸ tt);
+}
+
+attempt_1_1_2-follows : attempts.AttemptFollows (transactions.attempt_terms txn_1_1-terms 1000 2) made_1 7 attempt_1_1_2
+attempt_1_1_2-follows = record {
+  id = refl;
+  spanned = record { follows = lit≤ tt; next = refl; ends = spans.with_calls m7 m12 (inr (inr (inr (inr (inr (inl refl)))))) (inl refl) refl refl };
+  ops = (op_1_1_2_1-follows, tt, tt);
+  held = lit≤ tt;
+  cut = [];
+  closing = (m12 ∷ m11 ∷ m10 ∷ []);
+  rest = refl;
+  cut_follows = tt;
+  ended = attempts.all_answered refl;
+  closes = ((refl, inr (inl refl), never_of drops (attempt_number 1 1 2) (m11 ∷ m10 ∷ []) refl) ▸ (
+    inl (
+      12,
+      (lists_of [] (doc_a ∷ []) []),
+      refl,
+      (Replace, inl refl),
+    ),
+    never_resolved doc_a (m10 ∷ []) refl,
+  ) ▸ (refl, lit< tt) ▸ tt);
+  may_commit = λ h. record { all = refl; good = refl; keep = refl };
+  may_abort = λ h. absurd (never_of aborts (attempt_number 1 1 2) (m12 ∷ m11 ∷ m10 ∷ []) refl h);
+  third = ((λ e. absurd (no_bool (sym e))), λ h. absurd (not_third (attempt_number 1 1 2) (m12 ∷ m11 ∷ m10 ∷ []) (lit≤ tt) h));
+  ends = (
+    record {
+      all = refl;
+      good = refl;
+      keep = refl;
+    },
+    attempts.told ((not_of commits (attempt_number 1 1 2) m12 refl ▹ not_of commits (attempt_number 1 1 2) m11 refl ▹ inl (
+      refl,
+      (12, 1009975296, (lists_of [] (doc_a ∷ []) []), refl, refl),
+    ))),
+    (
+      inl ((12, refl), inl refl),
+      ((λ e. unfailed m12 refl) ▸ (λ e. unfailed m11 refl) ▸ (λ e. unfailed m10 refl) ▸ tt),
+    ),
+  );
+}
+
+client_1-follows : FollowsPlan 1 16 (record { txns = plan_1_1 ∷ [] }) made_1 client_1
+client_1-follows = record {
+  txns = (
+    record {
+      start = 1000;
+      start_is = refl;
+      attempts = (attempt_1_1_1-follows, (transactions.after_answer refl refl, lit≤ tt), (attempt_1_1_2-follows, tt, tt));
+      few = lit≤ tt;
+      ends = (10, refl);
+    },
+    tt,
+    tt,
+  );
+  whole = inl refl;
+  inside = (lit< tt ▸ lit< tt ▸ lit< tt ▸ lit< tt ▸ lit< tt ▸ lit< tt ▸ lit< tt ▸ lit< tt ▸ lit< tt ▸ lit< tt ▸ lit< tt ▸ lit< tt ▸ lit< tt ▸ tt);
+  counted = refl;
+}
+
+clients : (k : ℕ) (plan : _) (log : _) → numbered run_case.plans k ≡ Some plan → numbered book.clients k ≡ Some log
+    → FollowsPlan k run_case.atrs plan (own_of book k) log
+clients = both_numbered (λ k plan log. FollowsPlan k run_case.atrs plan (own_of book k) log) plans book.clients (subst (λ l. FollowsPlan 1 16 (record
+    { txns = plan_1_1 ∷ [] }) l client_1) (sym own-1) client_1-follows ▸ tt)
+
+rounds : (k n : ℕ) (log : _) → numbered run_case.rounds k ≡ Some n → numbered book.cleaners k ≡ Some log
+    → cleaners.CleanerFollows (cleaner_plan run_case k n) (own_of book (length run_case.plans + k)) log
+rounds = both_numbered (λ k n log. cleaners.CleanerFollows (cleaner_plan run_case k n) (own_of book (length run_case.plans + k)) log) run_case.rounds
+    book.cleaners tt
+
+pub follow : LogsFollow run_case book
+follow = record {
+  clients = record { all = refl; each = clients };
+  cleaners = record { all = refl; each = rounds; sweep = λ ms log is at. absurd (nothing is) };
+}
+
+pub rolled-back : HasValue run_case book 7 doc_a (Some (n 1))
+unfolding row clock_of
+rolled-back = (refl, refl)
+
+pub after-commit : HasValue run_case book 11 doc_a (Some (n 2))
+unfolding row clock_of
+after-commit = (refl, refl)

@@ -1,0 +1,17 @@
+use Rattle.std.proofs.Common.{◌≡◌, ℕ, ◌+◌, ◌≤◌, List, ◌++◌, length, length-append, refl, ap, ◌∙◌, arith}
+use Rattle.cbt_model.specs.declared.events.Made.{Made}
+use Rattle.cbt_rows.specs.Changes.{one_entry}
+use Rattle.cbt_rows.proofs.Never.{differ}
+use Rattle.cbt_rows.proofs.unplanned.calls_that_do_not_fit.Goals as goal
+
+too_few : (asked older : List Made) → one_entry ≡ asked ++ older → length asked ≡ 4 → ⊥
+too_few asked older calls four = go (length asked) (length older) (ap length calls ∙ length-append asked older) four
+  where
+    go : (m k : ℕ) → 2 ≡ m + k → m ≡ 4 → ⊥
+    go m k e f = omega arith
+
+above : 2 ≤ 1 → ⊥
+above h = omega arith
+
+pub returns : goal.returns
+returns c = record { blocked = λ it. too_few it.asked it.older it.calls_are it.four; padded = λ it. above it.readings; another_record = λ it. differ 3 12 refl it.1 }

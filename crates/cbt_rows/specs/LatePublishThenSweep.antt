@@ -1,0 +1,150 @@
+-- A publication is late; its client ends, and a sweep drops the entry.
+use Rattle.std.specs.Prelude.{true, false, List, [], ◌∷◌, Some, None}
+use Rattle.cbt_base.specs.Ids.{attempt_number, cleaner_number}
+use Rattle.cbt_expr.specs.declared.plans.ClientPlan.{ClientPlan}
+use Rattle.cbt_expr.specs.declared.plans.Op.TheVariants as op
+use Rattle.cbt_expr.specs.declared.plans.TxnPlan.{TxnPlan}
+use Rattle.cbt_model.specs.declared.documents.OpKind.TheVariants.{Replace}
+use Rattle.cbt_model.specs.declared.entries.EntryState.TheVariants.{Committed}
+use Rattle.cbt_model.specs.declared.events.Event.{Event}
+use Rattle.cbt_model.specs.declared.events.Fate.TheVariants.{Plain, Late}
+use Rattle.cbt_model.specs.declared.events.Made.{Made}
+use Rattle.cbt_model.specs.declared.events.Mark.{Mark}
+use Rattle.cbt_model.specs.declared.states.State.{State}
+use Rattle.cbt_model.specs.declared.steps.Expect.TheVariants as expect
+use Rattle.cbt_model.specs.declared.steps.Reply.TheVariants as reply
+use Rattle.cbt_model.specs.declared.steps.Step.TheVariants as step
+use Rattle.cbt_book.specs.declared.book.Book.{Book}
+use Rattle.cbt_book.specs.declared.cleaners.CleanerLog.{CleanerLog}
+use Rattle.cbt_book.specs.declared.cleaners.PassEnd.TheVariants as pass_end
+use Rattle.cbt_book.specs.declared.clients.AttemptEnd.TheVariants as attempt_end
+use Rattle.cbt_book.specs.declared.clients.AttemptLog.{AttemptLog}
+use Rattle.cbt_book.specs.declared.clients.ClientLog.{ClientLog}
+use Rattle.cbt_book.specs.declared.clients.TxnEnd.TheVariants as txn_end
+use Rattle.cbt_book.specs.declared.clients.TxnLog.{TxnLog}
+use Rattle.cbt_book.specs.declared.operations.OpAnswer.TheVariants as answer
+use Rattle.cbt_book.specs.declared.operations.OpLog.{OpLog}
+use Rattle.cbt_book.specs.declared.operations.When.TheVariants as when
+use Rattle.cbt_core.specs.declared.case.Case.{Case}
+use Rattle.cbt_rows.specs.Words.{doc_a, n, stage_of, lists_of, entry_of, first_doc, event_of, told, faults_of, span_of}
+
+-- the node before the run
+abbrev pub opening : State
+opening = record { last = 1; docs = (doc_a, first_doc 1 (n 1)) ∷ []; entries = []; clients = [] }
+
+-- its calls, and what each actor was told
+abbrev pub e0 : Event
+e0 = event_of 1 Plain 1000 (step.ReadDoc doc_a)
+
+abbrev pub m0 : Made
+m0 = told e0 0 1000 (reply.Doc 1 (Some (n 1)) None)
+
+abbrev pub e1 : Event
+e1 = event_of 1 Plain 1001 (step.AddEntry 0 (attempt_number 1 1 1) 15000)
+
+abbrev pub m1 : Made
+m1 = told e1 1 1001 (reply.Done 1000996864)
+
+abbrev pub e2 : Event
+e2 = event_of 1 Plain 1002 (step.Stage doc_a (expect.Cas 1) (stage_of (attempt_number 1 1 1) 0 Replace (Some (n 2))))
+
+abbrev pub m2 : Made
+m2 = told e2 2 1002 (reply.Done 1001979904)
+
+abbrev pub e3 : Event
+e3 = event_of 1 Plain 1003 (step.Commit 0 (attempt_number 1 1 1) (lists_of [] (doc_a ∷ []) []))
+
+abbrev pub m3 : Made
+m3 = told e3 3 1003 (reply.Done 1002962944)
+
+abbrev pub e4 : Event
+e4 = event_of 1 Late 1004 (step.Publish doc_a 1001979904 (n 2))
+
+abbrev pub m4 : Made
+m4 = told e4 4 1004 (reply.Failed)
+
+abbrev pub e5 : Event
+e5 = event_of 2 Plain 21005 (step.ReadAtr 0)
+
+abbrev pub m5 : Made
+m5 = told e5 5 21005 (reply.Entries ((attempt_number 1 1 1, (entry_of Committed 1000996864 15000 (lists_of [] (doc_a ∷ []) []))) ∷ []))
+
+abbrev pub e6 : Event
+e6 = event_of 2 Plain 21006 (step.ReadDoc doc_a)
+
+abbrev pub m6 : Made
+m6 = told e6 6 21006 (reply.Doc 1003945984 (Some (n 2)) None)
+
+abbrev pub e7 : Event
+e7 = event_of 2 Plain 21007 (step.DropEntry 0 (attempt_number 1 1 1) false)
+
+abbrev pub m7 : Made
+m7 = told e7 7 21007 (reply.Done 21006974976)
+
+abbrev pub history : List Event
+history = e0 ∷ e1 ∷ e2 ∷ e3 ∷ e4 ∷ e5 ∷ e6 ∷ e7 ∷ []
+
+abbrev pub marks : List Mark
+marks = record { place = 5; ms = 20000 } ∷ []
+
+-- what actor 1 had made up to each of its calls, newest first
+abbrev pub past_0 : List Made
+past_0 = m0 ∷ []
+
+abbrev pub past_1 : List Made
+past_1 = m1 ∷ past_0
+
+abbrev pub past_2 : List Made
+past_2 = m2 ∷ past_1
+
+abbrev pub past_3 : List Made
+past_3 = m3 ∷ past_2
+
+abbrev pub past_4 : List Made
+past_4 = m4 ∷ past_3
+
+abbrev pub made_1 : List Made
+made_1 = past_4
+
+-- what actor 2 had made up to each of its calls, newest first
+abbrev pub past_5 : List Made
+past_5 = m5 ∷ []
+
+abbrev pub past_6 : List Made
+past_6 = m6 ∷ past_5
+
+abbrev pub past_7 : List Made
+past_7 = m7 ∷ past_6
+
+abbrev pub made_2 : List Made
+made_2 = past_7
+
+-- what the clients are to do
+abbrev pub plan_1_1 : TxnPlan
+plan_1_1 = record { ops = (op.Replace doc_a (record { value = n 2 })) ∷ []; expiry = 15000; hold = 15000; tries = 8; keep = true }
+
+abbrev pub plans : List ClientPlan
+plans = record { txns = plan_1_1 ∷ [] } ∷ []
+
+-- the run's case
+abbrev pub run_case : Case
+run_case = record { opening = opening; line = Some (1000, 1); faults = faults_of (((1, 5), Late) ∷ []); stops = []; plans = plans; actors = 2; atrs = 1; lapse = 60000; rounds = []; sweep = (Some 20000) }
+
+-- the logs that the clients and cleaners leave
+abbrev pub op_1_1_1_1 : OpLog
+op_1_1_1_1 = record { op = 1; span = (span_of 0 3); answer = answer.Staged 2 (when.At 0) }
+
+abbrev pub attempt_1_1_1 : AttemptLog
+attempt_1_1_1 = record { id = attempt_number 1 1 1; span = (span_of 0 5); ops = op_1_1_1_1 ∷ []; not_committed = false; end = attempt_end.Committed 3 false }
+
+abbrev pub txn_1_1 : TxnLog
+txn_1_1 = record { attempts = attempt_1_1_1 ∷ []; end = txn_end.Committed false }
+
+abbrev pub client_1 : ClientLog
+client_1 = record { txns = txn_1_1 ∷ []; calls = 5 }
+
+abbrev pub cleaner_1 : CleanerLog
+cleaner_1 = record { id = cleaner_number 1; rounds = record { span = (span_of 5 8); share = Some (record { index = 0; of = 1 }); passes = record { atr = 0; span = (span_of 5 8); end = pass_end.Ok ((attempt_number 1 1 1) ∷ []) } ∷ [] } ∷ []; stopped = false; calls = 3 }
+
+abbrev pub book : Book
+book = record { kept = record { opening = opening; history = history; marks = marks }; clients = client_1 ∷ []; cleaners = cleaner_1 ∷ [] }
