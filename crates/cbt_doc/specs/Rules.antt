@@ -2,8 +2,6 @@
 use Rattle.std.specs.Prelude.{◌≡◌, Result, Ok, Err}
 use Rattle.std.specs.Option.{ForSome}
 use Rattle.cbt_json.specs.Rules.{IsJson}
-use Rattle.cbt_subdoc.specs.declared.edits.Refusal.{Refusal}
-use Rattle.cbt_subdoc.specs.declared.edits.Refusal.TheVariants as why
 use Rattle.cbt_doc.specs.declared.contents.Content.{Content}
 use Rattle.cbt_doc.specs.declared.docs.DocFault.{DocFault}
 use Rattle.cbt_doc.specs.declared.docs.DocFault.TheVariants.{NoMemory}
@@ -13,11 +11,6 @@ abbrev pub HasRules : Content → Type 0
 HasRules c = IsJson c.attrs × ForSome c.body IsJson
 
 -- want of memory is free
-abbrev pub Does : {A : Type 0} → Result A Refusal → Result A Refusal → Type 0
-Does (Ok x) right = right ≡ Ok x
-Does (Err why.NoMemory) right = Unit {0}
-Does (Err why) right = right ≡ Err why
-
 abbrev pub Makes : {A : Type 0} → Result A DocFault → Result A DocFault → Type 0
 Makes (Ok x) right = right ≡ Ok x
 Makes (Err NoMemory) right = Unit {0}

@@ -7,7 +7,7 @@ ghost use Rattle.cbt_doc.specs.Calls.{doc_after, looked_at};
 
 use crate::contents::{change_content, copy_content, finish};
 use crate::docs::{Doc, DocCall, DocFault};
-use crate::refusals::{expected, in_order, is_live, present};
+use crate::refusals::{expect_fault, is_live, paths_fault, presence_fault};
 use cbt_base::List;
 use cbt_subdoc::{Look, LookAnswer, lookup};
 use std::alloc::Global;
@@ -35,14 +35,14 @@ fn changed_doc(alloc: Global, slot: Option<&Doc>, call: &DocCall, cas: u64) -> R
     ensures ok { IfOk result (λ doc. doc_after (option_copied slot.entry) call.now cas ≡ Ok doc) }
     ensures refused { IfErr result (λ fault. (doc_after (option_copied slot.entry) call.now cas ≡ Err fault) ⊎ (fault ≡ DocFault.NoMemory)) }
 {
-    if let Some(fault) = expected(call.expect, slot) {
+    if let Some(fault) = expect_fault(call.expect, slot) {
         return Err(fault);
     }
-    if let Some(fault) = present(&call.body, slot) {
+    if let Some(fault) = presence_fault(&call.body, slot) {
         return Err(fault);
     }
     let changes = call.changes.as_slice();
-    if let Some(fault) = in_order(changes, is_live(slot)) {
+    if let Some(fault) = paths_fault(changes, is_live(slot)) {
         return Err(fault);
     }
     let content = copy_content(alloc, slot)?;

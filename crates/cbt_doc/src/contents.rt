@@ -3,7 +3,8 @@ ghost use Rattle.std.specs.Prelude.{◌≡◌, IfOk};
 ghost use Rattle.std.specs.Option.{option_copied, ForSome};
 ghost use Rattle.cbt_json.specs.Rules.{IsJson};
 ghost use Rattle.cbt_doc.specs.Contents.{content_of, content_changed, all_changed, doc_of};
-ghost use Rattle.cbt_doc.specs.Rules.{HasRules, Does, Makes};
+ghost use Rattle.cbt_subdoc.specs.Edits.{Does};
+ghost use Rattle.cbt_doc.specs.Rules.{HasRules, Makes};
 
 use crate::attributes::kept_attributes;
 use crate::docs::{BodyChange, Doc, DocFault, DocMut};

@@ -19,7 +19,7 @@ pub(crate) fn is_live(slot: Option<&Doc>) -> bool
 }
 
 /// What is wrong with the document that a call meets, by what it expects.
-pub(crate) fn expected(expect: DocExpect, slot: Option<&Doc>) -> Option<DocFault>
+pub(crate) fn expect_fault(expect: DocExpect, slot: Option<&Doc>) -> Option<DocFault>
     ensures { result ≡ expect_fault expect (option_copied slot.entry) }
 {
     match slot {
@@ -36,7 +36,7 @@ pub(crate) fn expected(expect: DocExpect, slot: Option<&Doc>) -> Option<DocFault
 }
 
 /// What is wrong with it, by what becomes of the body.
-pub(crate) fn present(body: &BodyChange, slot: Option<&Doc>) -> Option<DocFault>
+pub(crate) fn presence_fault(body: &BodyChange, slot: Option<&Doc>) -> Option<DocFault>
     ensures { result ≡ presence_fault body.now (option_copied slot.entry) }
 {
     match slot {
@@ -53,7 +53,7 @@ pub(crate) fn present(body: &BodyChange, slot: Option<&Doc>) -> Option<DocFault>
 }
 
 /// What is wrong with the paths of a call, for a document with a body or without.
-pub(crate) fn in_order(changes: &[DocMut], live: bool) -> Option<DocFault>
+pub(crate) fn paths_fault(changes: &[DocMut], live: bool) -> Option<DocFault>
     ensures { result ≡ paths_fault changes.now live }
 {
     if changes.len() > MAX_PATHS {

@@ -13,3 +13,4 @@ pub mod ReadsBack
 pub mod Stops
 pub mod Leaves
 pub mod FirstBad
+pub mod Found

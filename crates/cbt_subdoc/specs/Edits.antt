@@ -113,6 +113,13 @@ edited_by PushFirst parents v slot = onto PushFirst v (list_in parents slot)
 edited_by PushLast parents v slot = onto PushLast v (list_in parents slot)
 edited_by AddUnique parents v slot = onto AddUnique v (list_in parents slot)
 
+-- the operations that set the value at the end of their path
+abbrev pub sets : MutOp → Bool
+sets Add = true
+sets Upsert = true
+sets Replace = true
+sets _ = false
+
 -- the slot after an edit
 abbrev pub edited : Edit → Slot → Result Slot Refusal
 edited e slot = edited_by e.op e.parents e.value slot

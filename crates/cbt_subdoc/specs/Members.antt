@@ -3,6 +3,7 @@ use Rattle.std.specs.Prelude.{ℕ, suc, List, [], ◌∷◌, Option, Some, None,
 use Rattle.std.specs.declared.cmp.Ordering.{Ordering}
 use Rattle.std.specs.Ordering.{nat_cmp, match_ordering}
 use Rattle.std.specs.Cmp.Lexicographic.{slice_cmp}
+use Rattle.cbt_base.specs.Keyed.{with_pair}
 use Rattle.cbt_json.specs.declared.tree.Tree.{Tree}
 
 -- the order of names
@@ -19,8 +20,7 @@ member name (m ∷ ms) = match_ordering (name_cmp name m.0) None (Some m.1) (mem
 
 -- the members with this value for a name
 abbrev pub with_member : List ℕ → Tree → Members → Members
-with_member name value [] = (name, value) ∷ []
-with_member name value (m ∷ ms) = match_ordering (name_cmp name m.0) ((name, value) ∷ m ∷ ms) ((m.0, value) ∷ ms) (m ∷ with_member name value ms)
+with_member name value ms = with_pair name_cmp ms name value
 
 -- the members without a name
 abbrev pub without_member : List ℕ → Members → Members

@@ -1,7 +1,13 @@
-//! Laws of paths.
-ghost use Rattle.std.specs.Prelude.{◌≡◌, ℕ, ◌≤◌, List, length, Ok, Err};
+//! Laws of paths and of changes.
+ghost use Rattle.std.specs.Prelude.{◌≡◌, ℕ, ◌≤◌, List, length, IsTrue, Ok, Err};
 ghost use Rattle.cbt_subdoc.specs.declared.path.Part.{Part};
 ghost use Rattle.cbt_subdoc.specs.declared.path.PathFault.TheVariants.{BadAt};
+ghost use Rattle.cbt_json.specs.declared.tree.Tree.{Tree};
+ghost use Rattle.cbt_subdoc.specs.declared.changes.Mut.{Mut};
+ghost use Rattle.cbt_subdoc.specs.Edits.{sets};
+ghost use Rattle.cbt_subdoc.specs.Values.{value_of};
+ghost use Rattle.cbt_subdoc.specs.Along.{changed};
+ghost use Rattle.cbt_subdoc.specs.Reach.{reached};
 ghost use Rattle.cbt_subdoc.specs.PathLimits.{IsPath};
 ghost use Rattle.cbt_subdoc.specs.Paths.{path_of};
 ghost use Rattle.cbt_subdoc.specs.Written.{path_text, AreWritable, IsFirstBad};
@@ -15,4 +21,9 @@ pub fn path_reads_back()
 /// ends too early.
 pub fn bad_byte_is_first()
     ensures { (text : List ℕ) (at : ℕ) → path_of text ≡ Err (BadAt at) → IsFirstBad text at }
+{}
+
+/// A law: a value that was set is what a look along the same path finds.
+pub fn set_value_is_found()
+    ensures { (cas : ℕ) (change : Mut) (tree after : Tree) → IsTrue (sets change.op) → changed cas change tree ≡ Ok after → reached change.path after ≡ Ok (value_of cas change.value) }
 {}
