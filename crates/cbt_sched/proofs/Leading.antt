@@ -57,6 +57,10 @@ module _ (first count : ℕ) (ordered : List ℕ) (at_first : ℕ → Bool) (r :
       up : (k m : ℕ) → k ≤ m → k + (m - k) ≡ m
       up k m low = omega arith
 
+passed-here : (before at : ℕ) (old new : List ℕ) → PassesOver before at old new → (next_of new before ≡ next_of old before) ⊎ (next_of new before ≡ next_of old at)
+passed-here before at old new pass =
+    ⊎_elim (λ (room : before < length old). inr (pass.here room)) (λ (short : length old ≤ before). inl (ap (λ x. next_of x before) (pass.short short))) (cases_lt before (length old))
+
 -- who has ended stays so
 pub stays-ended : (made : Bool) (number : ℕ) (old new : List ℕ) (before after : Bool) → MatchBool made (Called number old new before) (Idle old new after)
     → before ≡ false → after ≡ false
@@ -97,7 +101,7 @@ module _ (first count : ℕ) (next next' : List ℕ) (asking asking' : ℕ → B
           let old = leads.further before (omega arith) in let one = old.0 in let two = old.1 in
           let mid = leads.further (p + 1) within in let three = mid.0 in let four = mid.1 in
           ⊎_elim (λ (same : next_of next' before ≡ next_of next before). (omega arith, omega arith))
-          (λ (far : next_of next' before ≡ next_of next (p + 1)). (omega arith, omega arith)) pass.here
+          (λ (far : next_of next' before ≡ next_of next (p + 1)). (omega arith, omega arith)) (passed-here before (p + 1) next next' pass)
 
       over-here : (place : ℕ) → before ≤ place → place + 1 < next_of next' before → asking' (first + place) ≡ false
       over-here place from to =
@@ -105,7 +109,7 @@ module _ (first count : ℕ) (next next' : List ℕ) (asking asking' : ℕ → B
           (λ (far : next_of next' before ≡ next_of next (p + 1)).
           ⊎_elim (λ (less : place < p). still place (span place from less))
           (λ (more : p ≤ place). ⊎_elim (λ (here : place ≡ p). subst (λ i. asking' (first + i) ≡ false) (sym here) (idle none))
-          (λ (apart : place ≢ p). leads'.over (p + 1) place within (omega arith) (omega arith)) (same_or_apart place p)) (cases_lt place p)) pass.here
+          (λ (apart : place ≢ p). leads'.over (p + 1) place within (omega arith) (omega arith)) (same_or_apart place p)) (cases_lt place p)) (passed-here before (p + 1) next next' pass)
 
   pub leads_on-next : LeadsOn first count next' asking'
   leads_on-next = choice made refl

@@ -2,3 +2,4 @@ pub mod Driving
 pub mod Positions
 pub mod Stopping
 pub mod Turns
+pub mod Written

@@ -1,5 +1,5 @@
 -- Positions of actors: 0 stands before the first of a list, and p for the one at place p - 1.
-use Rattle.std.specs.Prelude.{◌≡◌, ◌≢◌, ℕ, ◌+◌, ◌<◌, ◌≤◌, ◌⊎◌, Bool, false, List, slice_get, unwrap_or}
+use Rattle.std.specs.Prelude.{◌≡◌, ◌≢◌, ℕ, ◌+◌, ◌<◌, ◌≤◌, Bool, false, List, length, slice_get, unwrap_or}
 
 -- the position after one, by a table that may be short
 abbrev pub next_of : List ℕ → ℕ → ℕ
@@ -10,7 +10,8 @@ pub record LeadsOn (first count : ℕ) (next : List ℕ) (asking : ℕ → Bool)
   pub further : (at : ℕ) → at ≤ count → (at < next_of next at) × (next_of next at ≤ count + 1)
   pub over : (at place : ℕ) → at ≤ count → at ≤ place → place + 1 < next_of next at → asking (first + place) ≡ false
 
--- from one position on another is passed over, where there is room in the table
+-- from one position on another is passed over, where the table is long enough
 pub record PassesOver (before at : ℕ) (old new : List ℕ) : Type 0 where
-  pub here : (next_of new before ≡ next_of old before) ⊎ (next_of new before ≡ next_of old at)
+  pub here : before < length old → next_of new before ≡ next_of old at
+  pub short : length old ≤ before → new ≡ old
   pub others : (i : ℕ) → i ≢ before → next_of new i ≡ next_of old i

@@ -1,6 +1,8 @@
 //! Orders of actors over the typed node.
 
-ghost use Rattle.std.specs.Prelude.{◌≡◌, ℕ, ◌+◌, ◌^◌, ◌<◌, ◌≤◌, Some, [], length, slice_get, IfOk};
+ghost use Rattle.std.specs.Prelude.{◌≡◌, ℕ, ◌+◌, ◌^◌, ◌<◌, ◌≤◌, Some, [], ◌∷◌, length, slice_get, IfOk};
+ghost use Rattle.cbt_sched.specs.Turns.{marks_of, turns};
+ghost use Rattle.cbt_sched.specs.Written.{actors, counts, order};
 
 use crate::drive_in_order;
 use crate::refusing::Refusing;
@@ -91,6 +93,19 @@ fn expect(rt: &impl Abort, kept: &Kept, callers: &[u32], marks: &[(u64, u64)]) {
     for (mark, (place, ms)) in kept.marks.iter().zip(marks) {
         assert_eq!(rt; (mark.place, mark.ms), (*place, *ms));
     }
+}
+
+// The order of turns and its marks: by the written order, and without one behind three calls.
+fn written_order()
+    ensures turns { turns counts actors order [] ≡ 2 ∷ 2 ∷ 1 ∷ 1 ∷ 1 ∷ 2 ∷ 3 ∷ 2 ∷ 3 ∷ [] }
+    ensures marks { marks_of counts order []
+        ≡ record { place = 0; ms = 10 } ∷ record { place = 2; ms = 20 } ∷ record { place = 5; ms = 30 } ∷ [] }
+    ensures goes_on { turns counts actors [] (1 ∷ 1 ∷ 2 ∷ []) ≡ 1 ∷ 1 ∷ 2 ∷ 1 ∷ 2 ∷ 3 ∷ 2 ∷ 3 ∷ 2 ∷ [] }
+{}
+
+#[test]
+fn turns_and_marks_of_a_written_order() {
+    written_order();
 }
 
 #[test]
