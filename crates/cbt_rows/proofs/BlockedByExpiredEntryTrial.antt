@@ -134,8 +134,7 @@ abbrev txn_1_1-terms : transactions.TxnTerms
 txn_1_1-terms = record { client = 1; number = 1; plan = plan_1_1; atrs = 16 }
 
 op_1_1_1_1-follows : operations.OpFollows (transactions.attempt_terms txn_1_1-terms 1000 1) made_1 0 1 walk.nothing_yet (op.Replace doc_a (record {
-  value = n
-      2;
+  value = n 2;
 })) op_1_1_1_1
 op_1_1_1_1-follows = record {
   counted = refl;
@@ -203,8 +202,7 @@ abbrev txn_2_1-terms : transactions.TxnTerms
 txn_2_1-terms = record { client = 2; number = 1; plan = plan_2_1; atrs = 16 }
 
 op_2_1_1_1-follows : operations.OpFollows (transactions.attempt_terms txn_2_1-terms 21003 1) made_2 0 1 walk.nothing_yet (op.Replace doc_a (record {
-  value =
-      n 3;
+  value = n 3;
 })) op_2_1_1_1
 op_2_1_1_1-follows = record {
   counted = refl;
@@ -274,8 +272,7 @@ attempt_2_1_1-follows = record {
 }
 
 op_2_1_2_1-follows : operations.OpFollows (transactions.attempt_terms txn_2_1-terms 21003 2) made_2 9 1 walk.nothing_yet (op.Replace doc_a (record {
-  value =
-      n 3;
+  value = n 3;
 })) op_2_1_2_1
 op_2_1_2_1-follows = record {
   counted = refl;

@@ -202,7 +202,7 @@ may-6 = inl (
 )
 
 may-4 : MayTake (identity_of run_case 3) past_3 e4.step
-may-4 = record { own = refl; few = lit≤ tt; rising = λ k h. absurd (omega arith); read = inl ([], refl, refl, λ id h. absurd h) }
+may-4 = record { own = refl; few = lit≤ tt; rising = λ k h. absurd (omega arith); read = inl (([]), refl, refl, λ id h. absurd h) }
 
 licensed-3 : IsLicensed (identity_of run_case 3) made_3
 licensed-3 = (may-6 ▸ tt ▸ may-4 ▸ tt ▸ tt)
@@ -225,8 +225,7 @@ abbrev txn_1_1-terms : transactions.TxnTerms
 txn_1_1-terms = record { client = 1; number = 1; plan = plan_1_1; atrs = 1 }
 
 op_1_1_1_1-follows : operations.OpFollows (transactions.attempt_terms txn_1_1-terms 1000 1) made_1 0 1 walk.nothing_yet (op.Replace doc_a (record {
-  value = n
-      2;
+  value = n 2;
 })) op_1_1_1_1
 op_1_1_1_1-follows = record {
   counted = refl;
@@ -294,8 +293,7 @@ abbrev txn_2_1-terms : transactions.TxnTerms
 txn_2_1-terms = record { client = 2; number = 1; plan = plan_2_1; atrs = 1 }
 
 op_2_1_1_1-follows : operations.OpFollows (transactions.attempt_terms txn_2_1-terms 21007 1) made_2 0 1 walk.nothing_yet (op.Replace doc_a (record {
-  value =
-      n 3;
+  value = n 3;
 })) op_2_1_1_1
 op_2_1_1_1-follows = record {
   counted = refl;
@@ -406,7 +404,7 @@ cleaner_1-follows = record {
       ends = spans.with_calls m3 m6 (inr (inr (inr (inl refl)))) (inl refl) refl refl;
     };
     goes = inl (record {
-      rows = [];
+      rows = ([]);
       later = (m6 ∷ m5 ∷ []);
       beat = m4;
       read = m3;

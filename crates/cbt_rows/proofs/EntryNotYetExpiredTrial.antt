@@ -111,7 +111,7 @@ licensed-1 : IsLicensed (identity_of run_case 1) made_1
 licensed-1 = (may-2 ▸ may-1 ▸ tt ▸ tt)
 
 may-4 : MayTake (identity_of run_case 2) past_3 e4.step
-may-4 = record { own = refl; few = lit≤ tt; rising = λ k h. absurd (omega arith); read = inl ([], refl, refl, λ id h. absurd h) }
+may-4 = record { own = refl; few = lit≤ tt; rising = λ k h. absurd (omega arith); read = inl (([]), refl, refl, λ id h. absurd h) }
 
 licensed-2 : IsLicensed (identity_of run_case 2) made_2
 licensed-2 = (tt ▸ may-4 ▸ tt ▸ tt)
@@ -132,8 +132,7 @@ abbrev txn_1_1-terms : transactions.TxnTerms
 txn_1_1-terms = record { client = 1; number = 1; plan = plan_1_1; atrs = 1 }
 
 op_1_1_1_1-follows : operations.OpFollows (transactions.attempt_terms txn_1_1-terms 1000 1) made_1 0 1 walk.nothing_yet (op.Replace doc_a (record {
-  value = n
-      2;
+  value = n 2;
 })) op_1_1_1_1
 op_1_1_1_1-follows = record {
   counted = refl;
@@ -204,7 +203,7 @@ cleaner_1-follows = record {
   rounds = (record {
     spanned = record { follows = lit≤ tt; next = refl; ends = spans.with_calls m3 m5 (inr (inr (inl refl))) (inl refl) refl refl };
     goes = inl (record {
-      rows = [];
+      rows = ([]);
       later = (m5 ∷ []);
       beat = m4;
       read = m3;

@@ -231,8 +231,7 @@ abbrev txn_1_1-terms : transactions.TxnTerms
 txn_1_1-terms = record { client = 1; number = 1; plan = plan_1_1; atrs = 1 }
 
 op_1_1_1_1-follows : operations.OpFollows (transactions.attempt_terms txn_1_1-terms 1000 1) made_1 0 1 walk.nothing_yet (op.Insert doc_a (record {
-  value = n
-      1;
+  value = n 1;
 })) op_1_1_1_1
 op_1_1_1_1-follows = record {
   counted = refl;
@@ -260,8 +259,10 @@ op_1_1_1_1-follows = record {
   in_time = (lit≤ tt ▸ lit≤ tt ▸ lit≤ tt ▸ tt);
 }
 
-op_1_1_1_2-follows : operations.OpFollows (transactions.attempt_terms txn_1_1-terms 1000 1) made_1 3 2 (walk.noted (op.Insert doc_a (record { value = n 1 }))
-    op_1_1_1_1 walk.nothing_yet) (op.Remove doc_a) op_1_1_1_2
+op_1_1_1_2-follows : operations.OpFollows (transactions.attempt_terms txn_1_1-terms 1000 1) made_1 3 2 (walk.noted (op.Insert doc_a (record {
+  value =
+      n 1;
+})) op_1_1_1_1 walk.nothing_yet) (op.Remove doc_a) op_1_1_1_2
 op_1_1_1_2-follows = record {
   counted = refl;
   spanned = record { follows = lit≤ tt; next = refl; ends = spans.with_calls m3 m3 (inl refl) (inl refl) refl refl };
@@ -321,8 +322,7 @@ abbrev txn_2_1-terms : transactions.TxnTerms
 txn_2_1-terms = record { client = 2; number = 1; plan = plan_2_1; atrs = 1 }
 
 op_2_1_1_1-follows : operations.OpFollows (transactions.attempt_terms txn_2_1-terms 1004 1) made_2 0 1 walk.nothing_yet (op.Insert doc_a (record {
-  value = n
-      9;
+  value = n 9;
 })) op_2_1_1_1
 op_2_1_1_1-follows = record {
   counted = refl;

@@ -176,8 +176,7 @@ abbrev txn_1_1-terms : transactions.TxnTerms
 txn_1_1-terms = record { client = 1; number = 1; plan = plan_1_1; atrs = 16 }
 
 op_1_1_1_1-follows : operations.OpFollows (transactions.attempt_terms txn_1_1-terms 1000 1) made_1 0 1 walk.nothing_yet (op.Insert doc_a (record {
-  value = n
-      1;
+  value = n 1;
 })) op_1_1_1_1
 op_1_1_1_1-follows = record {
   counted = refl;
@@ -205,8 +204,10 @@ op_1_1_1_1-follows = record {
   in_time = (lit≤ tt ▸ lit≤ tt ▸ lit≤ tt ▸ tt);
 }
 
-op_1_1_1_2-follows : operations.OpFollows (transactions.attempt_terms txn_1_1-terms 1000 1) made_1 3 2 (walk.noted (op.Insert doc_a (record { value = n 1 }))
-    op_1_1_1_1 walk.nothing_yet) (op.Replace doc_a (record { value = n 2 })) op_1_1_1_2
+op_1_1_1_2-follows : operations.OpFollows (transactions.attempt_terms txn_1_1-terms 1000 1) made_1 3 2 (walk.noted (op.Insert doc_a (record {
+  value =
+      n 1;
+})) op_1_1_1_1 walk.nothing_yet) (op.Replace doc_a (record { value = n 2 })) op_1_1_1_2
 op_1_1_1_2-follows = record {
   counted = refl;
   spanned = record { follows = lit≤ tt; next = refl; ends = spans.with_calls m3 m3 (inl refl) (inl refl) refl refl };

@@ -174,7 +174,7 @@ may-8 = record {
 }
 
 may-5 : MayTake (identity_of run_case 2) past_4 e5.step
-may-5 = record { own = refl; few = lit≤ tt; rising = λ k h. absurd (omega arith); read = inl ([], refl, refl, λ id h. absurd h) }
+may-5 = record { own = refl; few = lit≤ tt; rising = λ k h. absurd (omega arith); read = inl (([]), refl, refl, λ id h. absurd h) }
 
 licensed-2 : IsLicensed (identity_of run_case 2) made_2
 licensed-2 = (may-9 ▸ may-8 ▸ tt ▸ tt ▸ may-5 ▸ tt ▸ tt)
@@ -195,8 +195,7 @@ abbrev txn_1_1-terms : transactions.TxnTerms
 txn_1_1-terms = record { client = 1; number = 1; plan = plan_1_1; atrs = 1 }
 
 op_1_1_1_1-follows : operations.OpFollows (transactions.attempt_terms txn_1_1-terms 1000 1) made_1 0 1 walk.nothing_yet (op.Replace doc_a (record {
-  value = n
-      2;
+  value = n 2;
 })) op_1_1_1_1
 op_1_1_1_1-follows = record {
   counted = refl;
@@ -272,7 +271,7 @@ cleaner_1-follows = record {
       ends = spans.with_calls m4 m9 (inr (inr (inr (inr (inr (inl refl)))))) (inl refl) refl refl;
     };
     goes = inl (record {
-      rows = [];
+      rows = ([]);
       later = (m9 ∷ m8 ∷ m7 ∷ m6 ∷ []);
       beat = m5;
       read = m4;

@@ -28,3 +28,10 @@ pub mod ReplaceOfMissingDocumentTrial
 pub mod LatePublishThenSweepTrial
 pub mod EntryNotYetExpiredTrial
 pub mod ReaderConfirmsCommittedStageTrial
+pub mod BlockedAfterGetTrial
+pub mod OwnWriteIsMetTrial
+pub mod CommitIsLostThreeTimesTrial
+pub mod LostEntryIsRolledBackTrial
+pub mod StopBeforeStagingTrial
+pub mod WriteExpiresTrial
+pub mod CleanersCutOffTrial

@@ -279,7 +279,8 @@ licensed actor = by_number IsFor 1 (subst (λ l. IsLicensed (identity_of run_cas
 abbrev txn_1_1-terms : transactions.TxnTerms
 txn_1_1-terms = record { client = 1; number = 1; plan = plan_1_1; atrs = 16 }
 
-op_1_1_1_1-follows : operations.OpFollows (transactions.attempt_terms txn_1_1-terms 1000 1) made_1 0 1 walk.nothing_yet (op.Get doc_a name_x) op_1_1_1_1
+op_1_1_1_1-follows : operations.OpFollows (transactions.attempt_terms txn_1_1-terms 1000 1) made_1 0 1 walk.nothing_yet (op.Get doc_a name_x)
+    op_1_1_1_1
 op_1_1_1_1-follows = record {
   counted = refl;
   spanned = record { follows = lit≤ tt; next = refl; ends = spans.with_calls m0 m0 (inl refl) (inl refl) refl refl };
@@ -390,7 +391,8 @@ client_1-follows = record {
 abbrev txn_2_1-terms : transactions.TxnTerms
 txn_2_1-terms = record { client = 2; number = 1; plan = plan_2_1; atrs = 16 }
 
-op_2_1_1_1-follows : operations.OpFollows (transactions.attempt_terms txn_2_1-terms 1001 1) made_2 0 1 walk.nothing_yet (op.Get doc_a name_x) op_2_1_1_1
+op_2_1_1_1-follows : operations.OpFollows (transactions.attempt_terms txn_2_1-terms 1001 1) made_2 0 1 walk.nothing_yet (op.Get doc_a name_x)
+    op_2_1_1_1
 op_2_1_1_1-follows = record {
   counted = refl;
   spanned = record { follows = lit≤ tt; next = refl; ends = spans.with_calls m1 m1 (inl refl) (inl refl) refl refl };
@@ -472,7 +474,8 @@ attempt_2_1_1-follows = record {
   );
 }
 
-op_2_1_2_1-follows : operations.OpFollows (transactions.attempt_terms txn_2_1-terms 1001 2) made_2 11 1 walk.nothing_yet (op.Get doc_a name_x) op_2_1_2_1
+op_2_1_2_1-follows : operations.OpFollows (transactions.attempt_terms txn_2_1-terms 1001 2) made_2 11 1 walk.nothing_yet (op.Get doc_a name_x)
+    op_2_1_2_1
 op_2_1_2_1-follows = record {
   counted = refl;
   spanned = record { follows = lit≤ tt; next = refl; ends = spans.with_calls m11 m11 (inl refl) (inl refl) refl refl };

@@ -20,6 +20,7 @@ use Rattle.cbt_model.specs.declared.steps.Reply.TheVariants as reply
 use Rattle.cbt_model.specs.declared.steps.Reply.{Reply}
 use Rattle.cbt_model.specs.declared.steps.Step.TheVariants as step
 use Rattle.cbt_model.specs.declared.steps.Step.{Step}
+use Rattle.cbt_book.specs.Cleaners.{Whole, Cut}
 use Rattle.cbt_book.specs.Licence.{WasStaged, WritesFor, stages, unsticks_own, WritesInVain, CommitsUnsettled}
 use Rattle.cbt_book.specs.OwnLists.{Once}
 use Rattle.cbt_book.specs.Shown.{ReadsDoc, FindsNoEntry, ReadsEntry, AddsEntry, added, was_there, adds}
@@ -246,3 +247,7 @@ never_unstuck d = never (λ m _. (x : ℕ) × (m.step ≡ step.Unstick d x)) (λ
 -- a replacement is no insert
 pub not_insert : Replace ≡ Insert → ⊥
 not_insert e = cc
+
+-- a round that was cut off is not whole
+pub whole_cut : Whole ≡ Cut → ⊥
+whole_cut e = cc

@@ -252,8 +252,7 @@ abbrev txn_1_1-terms : transactions.TxnTerms
 txn_1_1-terms = record { client = 1; number = 1; plan = plan_1_1; atrs = 1 }
 
 op_1_1_1_1-follows : operations.OpFollows (transactions.attempt_terms txn_1_1-terms 1000 1) made_1 0 1 walk.nothing_yet (op.Replace doc_a (record {
-  value = n
-      2;
+  value = n 2;
 })) op_1_1_1_1
 op_1_1_1_1-follows = record {
   counted = refl;
@@ -282,7 +281,8 @@ op_1_1_1_1-follows = record {
 }
 
 op_1_1_1_2-follows : operations.OpFollows (transactions.attempt_terms txn_1_1-terms 1000 1) made_1 3 2 (walk.noted (op.Replace doc_a (record {
-  value = n 2;
+  value
+      = n 2;
 })) op_1_1_1_1 walk.nothing_yet) (op.Replace doc_a (record { value = n 3 })) op_1_1_1_2
 op_1_1_1_2-follows = record {
   counted = refl;
@@ -369,7 +369,8 @@ client_1-follows = record {
 abbrev txn_2_1-terms : transactions.TxnTerms
 txn_2_1-terms = record { client = 2; number = 1; plan = plan_2_1; atrs = 1 }
 
-op_2_1_1_1-follows : operations.OpFollows (transactions.attempt_terms txn_2_1-terms 1003 1) made_2 0 1 walk.nothing_yet (op.Get doc_a name_x) op_2_1_1_1
+op_2_1_1_1-follows : operations.OpFollows (transactions.attempt_terms txn_2_1-terms 1003 1) made_2 0 1 walk.nothing_yet (op.Get doc_a name_x)
+    op_2_1_1_1
 op_2_1_1_1-follows = record {
   counted = refl;
   spanned = record { follows = lit≤ tt; next = refl; ends = spans.with_calls m3 m9 (inr (inr (inr (inr (inl refl))))) (inl refl) refl refl };

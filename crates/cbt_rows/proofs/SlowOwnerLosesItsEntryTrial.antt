@@ -269,7 +269,7 @@ may-6 = inl (
 )
 
 may-4 : MayTake (identity_of run_case 2) past_3 e4.step
-may-4 = record { own = refl; few = lit≤ tt; rising = λ k h. absurd (omega arith); read = inl ([], refl, refl, λ id h. absurd h) }
+may-4 = record { own = refl; few = lit≤ tt; rising = λ k h. absurd (omega arith); read = inl (([]), refl, refl, λ id h. absurd h) }
 
 licensed-2 : IsLicensed (identity_of run_case 2) made_2
 licensed-2 = (may-6 ▸ tt ▸ may-4 ▸ tt ▸ tt)
@@ -292,8 +292,7 @@ abbrev txn_1_1-terms : transactions.TxnTerms
 txn_1_1-terms = record { client = 1; number = 1; plan = plan_1_1; atrs = 1 }
 
 op_1_1_1_1-follows : operations.OpFollows (transactions.attempt_terms txn_1_1-terms 1000 1) made_1 0 1 walk.nothing_yet (op.Replace doc_a (record {
-  value = n
-      2;
+  value = n 2;
 })) op_1_1_1_1
 op_1_1_1_1-follows = record {
   counted = refl;
@@ -322,7 +321,8 @@ op_1_1_1_1-follows = record {
 }
 
 op_1_1_1_2-follows : operations.OpFollows (transactions.attempt_terms txn_1_1-terms 1000 1) made_1 3 2 (walk.noted (op.Replace doc_a (record {
-  value = n 2;
+  value
+      = n 2;
 })) op_1_1_1_1 walk.nothing_yet) (op.Replace doc_b (record { value = n 2 })) op_1_1_1_2
 op_1_1_1_2-follows = record {
   counted = refl;
@@ -369,8 +369,7 @@ attempt_1_1_1-follows = record {
 }
 
 op_1_1_2_1-follows : operations.OpFollows (transactions.attempt_terms txn_1_1-terms 1000 2) made_1 10 1 walk.nothing_yet (op.Replace doc_a (record {
-  value =
-      n 2;
+  value = n 2;
 })) op_1_1_2_1
 op_1_1_2_1-follows = record {
   counted = refl;
@@ -413,7 +412,8 @@ op_1_1_2_1-follows = record {
 }
 
 op_1_1_2_2-follows : operations.OpFollows (transactions.attempt_terms txn_1_1-terms 1000 2) made_1 15 2 (walk.noted (op.Replace doc_a (record {
-  value = n 2;
+  value
+      = n 2;
 })) op_1_1_2_1 walk.nothing_yet) (op.Replace doc_b (record { value = n 2 })) op_1_1_2_2
 op_1_1_2_2-follows = record {
   counted = refl;
@@ -537,7 +537,7 @@ cleaner_1-follows = record {
       ends = spans.with_calls m3 m6 (inr (inr (inr (inl refl)))) (inl refl) refl refl;
     };
     goes = inl (record {
-      rows = [];
+      rows = ([]);
       later = (m6 ∷ m5 ∷ []);
       beat = m4;
       read = m3;

@@ -55,7 +55,7 @@ abbrev pub e3 : Event
 e3 = event_of 3 Plain 21003 (step.ReadClients)
 
 abbrev pub m3 : Made
-m3 = told e3 3 21003 (reply.Clients [])
+m3 = told e3 3 21003 (reply.Clients ([]))
 
 abbrev pub e4 : Event
 e4 = event_of 3 Plain 21004 (step.Beat (cleaner_number 1) 60000 1 [])

@@ -55,7 +55,7 @@ abbrev pub e3 : Event
 e3 = event_of 2 Plain 15999 (step.ReadClients)
 
 abbrev pub m3 : Made
-m3 = told e3 3 15999 (reply.Clients [])
+m3 = told e3 3 15999 (reply.Clients ([]))
 
 abbrev pub e4 : Event
 e4 = event_of 2 Plain 16000 (step.Beat (cleaner_number 1) 60000 1 [])

@@ -24,5 +24,13 @@ pub mod ReplaceOfMissingDocument
 pub mod LatePublishThenSweep
 pub mod EntryNotYetExpired
 pub mod ReaderConfirmsCommittedStage
+pub mod BlockedAfterGet
+pub mod OwnWriteIsMet
+pub mod CommitIsLostThreeTimes
+pub mod LostEntryIsRolledBack
+pub mod StopBeforeStaging
+pub mod WriteExpires
+pub mod CleanersCutOff
 pub mod Changes
+pub mod Contended
 pub mod Unlawful

@@ -61,7 +61,7 @@ abbrev pub e4 : Event
 e4 = event_of 2 Plain 6004 (step.ReadClients)
 
 abbrev pub m4 : Made
-m4 = told e4 4 6004 (reply.Clients [])
+m4 = told e4 4 6004 (reply.Clients ([]))
 
 abbrev pub e5 : Event
 e5 = event_of 2 Plain 6005 (step.Beat (cleaner_number 1) 60000 1 [])

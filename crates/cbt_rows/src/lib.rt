@@ -11,18 +11,20 @@ mod unlicensed;
 mod unplanned;
 
 pub use misread::{
-    answers_that_are_right, hands_that_change, passes_that_do_not_follow,
-    readings_without_second_read, rounds_that_do_not_follow, shares, spans_that_do_not_follow,
+    answers_that_are_right, document_that_changes_hands, hands_that_change,
+    passes_that_do_not_follow, readings_without_second_read, rounds_that_do_not_follow, shares,
+    spans_that_do_not_follow,
 };
 pub use rows::{
-    blocked_by_expired_entry, cleaner_frees_pending_stage, entry_not_yet_expired,
-    insert_over_document, insert_taken_back, insert_then_replace, late_commit_is_unknown,
-    late_publish_then_sweep, late_stage_is_rolled_back, lost_commit_is_sent_again,
+    blocked_after_get, blocked_by_expired_entry, cleaner_frees_pending_stage, cleaners_cut_off,
+    commit_is_lost_three_times, entry_not_yet_expired, insert_over_document, insert_taken_back,
+    insert_then_replace, late_commit_is_unknown, late_publish_then_sweep,
+    late_stage_is_rolled_back, lost_commit_is_sent_again, lost_entry_is_rolled_back,
     lost_rollback_is_incomplete, lost_stage_is_retried, lost_update_is_prevented, one_replace,
-    owner_and_cleaner_finish_together, reader_before_commit, reader_confirms_committed_stage,
-    reader_meets_commit_of_rewritten_stage, remove_document, replace_of_missing_document,
-    slow_owner_loses_its_entry, stop_after_commit, stop_before_commit, sweep_frees_pending_stage,
-    transaction_expires,
+    own_write_is_met, owner_and_cleaner_finish_together, reader_before_commit,
+    reader_confirms_committed_stage, reader_meets_commit_of_rewritten_stage, remove_document,
+    replace_of_missing_document, slow_owner_loses_its_entry, stop_after_commit, stop_before_commit,
+    stop_before_staging, sweep_frees_pending_stage, transaction_expires, write_expires,
 };
 pub use unlawful::{
     answers_that_are_not_right, entry_added_again, invariants_that_are_broken,

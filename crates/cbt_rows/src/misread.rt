@@ -6,9 +6,11 @@ ghost use Rattle.cbt_book.specs.Spans.{IsSpan};
 ghost use Rattle.cbt_book.specs.declared.operations.OpAnswer.TheVariants as answer;
 ghost use Rattle.cbt_book.specs.declared.operations.When.TheVariants as when;
 ghost use Rattle.cbt_core.specs.OpAnswers.{ChangesHands};
+ghost use Rattle.cbt_core.specs.Operations.{OpFollows};
 ghost use Rattle.cbt_core.specs.Right.{IsRightWhen};
+ghost use Rattle.cbt_rows.specs.Contended;
 ghost use Rattle.cbt_core.specs.Walk.{nothing_yet};
-ghost use Rattle.cbt_rows.specs.Changes.{first_attempt, committed_unconfirmed, committed_reading, missing_unconfirmed, missing_reading, three_rows, records_of, round_alone, cleaner_alone, staged_again};
+ghost use Rattle.cbt_rows.specs.Changes.{first_attempt, first_try, get_first, committed_unconfirmed, committed_reading, missing_unconfirmed, missing_reading, three_rows, records_of, round_alone, cleaner_alone, staged_again};
 ghost use Rattle.cbt_rows.specs.CleanerFreesPendingStage as freed;
 ghost use Rattle.cbt_rows.specs.OneReplace as one;
 ghost use Rattle.cbt_rows.specs.ReaderBeforeCommit as reader;
@@ -64,4 +66,10 @@ pub fn hands_that_change()
 pub fn answers_that_are_right()
     ensures { IsRightWhen reader.run_case reader.book nothing_yet doc_a (span_of 4 7)
         (answer.Value (Some (n 2)) (when.At 5)) (Some (when.At 5)) }
+{}
+
+/// A get is answered that its document is contended after nine readings, each of which shows it staged
+/// at another CAS.
+pub fn document_that_changes_hands()
+    ensures { OpFollows first_try Contended.calls 0 1 nothing_yet get_first Contended.log }
 {}

@@ -27,6 +27,13 @@ ghost use Rattle.cbt_rows.specs.ReplaceOfMissingDocument;
 ghost use Rattle.cbt_rows.specs.LatePublishThenSweep;
 ghost use Rattle.cbt_rows.specs.EntryNotYetExpired;
 ghost use Rattle.cbt_rows.specs.ReaderConfirmsCommittedStage;
+ghost use Rattle.cbt_rows.specs.BlockedAfterGet;
+ghost use Rattle.cbt_rows.specs.OwnWriteIsMet;
+ghost use Rattle.cbt_rows.specs.CommitIsLostThreeTimes;
+ghost use Rattle.cbt_rows.specs.LostEntryIsRolledBack;
+ghost use Rattle.cbt_rows.specs.StopBeforeStaging;
+ghost use Rattle.cbt_rows.specs.WriteExpires;
+ghost use Rattle.cbt_rows.specs.CleanersCutOff;
 
 /// One client replaces one document.
 pub fn one_replace()
@@ -332,4 +339,70 @@ pub fn reader_confirms_committed_stage()
         ReaderConfirmsCommittedStage.book 9 doc_a (Some (n 2)) }
     ensures after_insert { HasValue ReaderConfirmsCommittedStage.run_case
         ReaderConfirmsCommittedStage.book 13 doc_seen (Some (got 2)) }
+{}
+
+/// A writer gets a staged document, waits for its entry, and gives up.
+pub fn blocked_after_get()
+    ensures fresh { IsFresh BlockedAfterGet.opening }
+    ensures legal { IsLegalRun BlockedAfterGet.run_case BlockedAfterGet.book }
+    ensures licensed { AreLicensed BlockedAfterGet.run_case BlockedAfterGet.book }
+    ensures follow { LogsFollow BlockedAfterGet.run_case BlockedAfterGet.book }
+    ensures at_end { HasValue BlockedAfterGet.run_case BlockedAfterGet.book 9 doc_a (Some (n 1)) }
+{}
+
+/// A client gets what it has inserted, and cannot insert it again.
+pub fn own_write_is_met()
+    ensures fresh { IsFresh OwnWriteIsMet.opening }
+    ensures legal { IsLegalRun OwnWriteIsMet.run_case OwnWriteIsMet.book }
+    ensures licensed { AreLicensed OwnWriteIsMet.run_case OwnWriteIsMet.book }
+    ensures follow { LogsFollow OwnWriteIsMet.run_case OwnWriteIsMet.book }
+    ensures at_end { HasValue OwnWriteIsMet.run_case OwnWriteIsMet.book 6 doc_a None }
+{}
+
+/// A commit is lost three times, and the attempt is rolled back.
+pub fn commit_is_lost_three_times()
+    ensures fresh { IsFresh CommitIsLostThreeTimes.opening }
+    ensures legal { IsLegalRun CommitIsLostThreeTimes.run_case CommitIsLostThreeTimes.book }
+    ensures licensed { AreLicensed CommitIsLostThreeTimes.run_case CommitIsLostThreeTimes.book }
+    ensures follow { LogsFollow CommitIsLostThreeTimes.run_case CommitIsLostThreeTimes.book }
+    ensures at_end { HasValue CommitIsLostThreeTimes.run_case CommitIsLostThreeTimes.book 12 doc_a
+        (Some (n 1)) }
+{}
+
+/// An entry is lost, and the abort finds none.
+pub fn lost_entry_is_rolled_back()
+    ensures fresh { IsFresh LostEntryIsRolledBack.opening }
+    ensures legal { IsLegalRun LostEntryIsRolledBack.run_case LostEntryIsRolledBack.book }
+    ensures licensed { AreLicensed LostEntryIsRolledBack.run_case LostEntryIsRolledBack.book }
+    ensures follow { LogsFollow LostEntryIsRolledBack.run_case LostEntryIsRolledBack.book }
+    ensures at_end { HasValue LostEntryIsRolledBack.run_case LostEntryIsRolledBack.book 3 doc_a
+        (Some (n 1)) }
+{}
+
+/// A client is stopped in a write.
+pub fn stop_before_staging()
+    ensures fresh { IsFresh StopBeforeStaging.opening }
+    ensures legal { IsLegalRun StopBeforeStaging.run_case StopBeforeStaging.book }
+    ensures licensed { AreLicensed StopBeforeStaging.run_case StopBeforeStaging.book }
+    ensures follow { LogsFollow StopBeforeStaging.run_case StopBeforeStaging.book }
+    ensures at_end { HasValue StopBeforeStaging.run_case StopBeforeStaging.book 2 doc_a
+        (Some (n 1)) }
+{}
+
+/// A transaction expires when its entry is added.
+pub fn write_expires()
+    ensures fresh { IsFresh WriteExpires.opening }
+    ensures legal { IsLegalRun WriteExpires.run_case WriteExpires.book }
+    ensures licensed { AreLicensed WriteExpires.run_case WriteExpires.book }
+    ensures follow { LogsFollow WriteExpires.run_case WriteExpires.book }
+    ensures at_end { HasValue WriteExpires.run_case WriteExpires.book 4 doc_a (Some (n 1)) }
+{}
+
+/// A cleaner is stopped in its second round, and another cannot read the client record.
+pub fn cleaners_cut_off()
+    ensures fresh { IsFresh CleanersCutOff.opening }
+    ensures legal { IsLegalRun CleanersCutOff.run_case CleanersCutOff.book }
+    ensures licensed { AreLicensed CleanersCutOff.run_case CleanersCutOff.book }
+    ensures follow { LogsFollow CleanersCutOff.run_case CleanersCutOff.book }
+    ensures at_end { HasValue CleanersCutOff.run_case CleanersCutOff.book 6 doc_a None }
 {}

@@ -1,0 +1,352 @@
+-- A commit is lost three times, and the attempt is rolled back.
+use Rattle.std.proofs.Common.{◌≡◌, ◌≢◌, ℕ, suc, true, false, ◌==◌, inl, inr, [], ◌∷◌, length, Some, None, refl, sym, subst, lit≤, lit<, slice_get, ◌+◌, ◌<◌, ◌≤◌, ◌^◌}
+use Rattle.std.specs.List.Sorted.{IsStrictlySortedBy}
+use Rattle.cbt_base.specs.Clock.{clock_of}
+use Rattle.cbt_base.specs.Ids.{attempt_number}
+use Rattle.cbt_model.specs.Faults.{fate_of}
+use Rattle.cbt_model.specs.Fitting.{step_fits}
+use Rattle.cbt_model.specs.History.{is_done}
+use Rattle.cbt_model.specs.Legal.{calls_below, line_due, ahead_at}
+use Rattle.cbt_base.specs.Clock.{held}
+use Rattle.cbt_model.specs.Table.{row}
+use Rattle.cbt_model.specs.declared.documents.OpKind.TheVariants.{Replace}
+use Rattle.cbt_model.specs.declared.entries.EntryState.TheVariants.{Pending}
+use Rattle.cbt_model.specs.declared.events.Event.{Event}
+use Rattle.cbt_model.specs.declared.steps.Expect.TheVariants as expect
+use Rattle.cbt_model.specs.declared.steps.Step.TheVariants as step
+use Rattle.cbt_book.specs.Cleaners as cleaners
+use Rattle.cbt_book.specs.Licence as licence
+use Rattle.cbt_book.specs.Licence.{IsLicensed, MayTake}
+use Rattle.cbt_book.specs.OwnLists.{Once, In}
+use Rattle.cbt_book.specs.ReadAt as ways
+use Rattle.cbt_book.specs.Shown as shown
+use Rattle.cbt_book.specs.Shown.{adds, aborts, decides}
+use Rattle.cbt_book.specs.Spans as spans
+use Rattle.cbt_expr.specs.declared.plans.Op.TheVariants as op
+use Rattle.cbt_book.specs.declared.operations.When.TheVariants as when
+use Rattle.cbt_core.specs.Attempts as attempts
+use Rattle.cbt_core.specs.Attempts.{drops}
+use Rattle.cbt_core.specs.Clients.{FollowsPlan}
+use Rattle.cbt_core.specs.OpAnswers as answers
+use Rattle.cbt_core.specs.Operations as operations
+use Rattle.cbt_core.specs.Runs.{IsFresh, own_of, identity_of, IsLegalRun, AreLicensed, LogsFollow, cleaner_plan}
+use Rattle.cbt_core.specs.Transactions as transactions
+use Rattle.cbt_core.specs.Walk as walk
+use Rattle.cbt_core.specs.WriteSets.{numbered}
+use Rattle.cbt_rows.proofs.Fits.{fits-n2}
+use Rattle.cbt_rows.proofs.Named.{found-all, both_numbered, nothing, all_listed, named, named-abort, all_from, own-none, all_numbered, all_planned, one_value, not_me, ◌▸◌, ◌▹◌, by_number}
+use Rattle.cbt_rows.proofs.Never.{never_of, none_settled, elsewhere, not_vain, done, not_of, never_writes, unfailed, different, never_answered, never_unstuck}
+use Rattle.cbt_rows.specs.Words.{HasValue, doc_a, n, stage_of, lists_of, entry_of}
+use Rattle.cbt_rows.specs.CommitIsLostThreeTimes.{opening, past_0, past_1, past_2, past_4, past_6, past_8, past_9, past_10, history, marks, plans, run_case, book, e1, e2, e3, e5, e7, e9, e10, e11, m0, m1, m2, m3, m4, m5, m6, m7, m8, m9, m10, m11, made_1, plan_1_1, client_1, attempt_1_1_1, op_1_1_1_1}
+
+own-1 : own_of book 1 ≡ made_1
+unfolding row clock_of
+own-1 = refl
+
+pub fresh : IsFresh opening
+unfolding IsStrictlySortedBy
+fresh = record {
+  ordered = record { docs = (tt, tt); entries = tt; clients = tt };
+  entries = refl;
+  clients = refl;
+  unstaged = found-all (λ x. x.stage ≡ None) opening.docs (refl ▸ tt);
+  low = found-all (λ x. x.cas ≤ opening.last) opening.docs (lit≤ tt ▸ tt);
+}
+
+fates : (i : ℕ) (e : Event) → slice_get history i ≡ Some e → e.fate ≡ fate_of run_case.faults e.actor (suc (calls_below history e.actor i))
+fates = all_from (λ i e. e.fate ≡ fate_of run_case.faults e.actor (suc (calls_below history e.actor i))) history (refl ▸ refl ▸ refl ▸ refl ▸ refl ▸
+    refl ▸ refl ▸ refl ▸ refl ▸ refl ▸ refl ▸ refl ▸ tt)
+
+fitting : (i : ℕ) (e : Event) → slice_get history i ≡ Some e → step_fits e.step ≡ true
+fitting = all_from (λ i e. step_fits e.step ≡ true) history (refl ▸ refl ▸ fits-n2 ▸ refl ▸ refl ▸ refl ▸ refl ▸ refl ▸ refl ▸ refl ▸ refl ▸ refl ▸
+    tt)
+
+readings : (i : ℕ) (e : Event) → slice_get history i ≡ Some e → e.reading ≡ held (line_due (1000, 1) i + ahead_at marks i)
+readings = all_from (λ i e. e.reading ≡ held (line_due (
+  1000,
+  1,
+) i + ahead_at marks i)) history (refl ▸ refl ▸ refl ▸ refl ▸ refl ▸ refl ▸ refl ▸ refl ▸ refl ▸ refl ▸ refl ▸ refl ▸ tt)
+
+actor-1 : (0 < 1) × (1 ≤ run_case.actors)
+actor-1 = (lit< tt, lit≤ tt)
+
+numbers : (i : ℕ) (e : Event) → slice_get history i ≡ Some e → (0 < e.actor) × (e.actor ≤ run_case.actors)
+numbers = all_from (λ i e. (0 < e.actor) × (e.actor ≤ run_case.actors)) history (actor-1 ▸ actor-1 ▸ actor-1 ▸ actor-1 ▸ actor-1 ▸ actor-1 ▸ actor-1
+    ▸ actor-1 ▸ actor-1 ▸ actor-1 ▸ actor-1 ▸ actor-1 ▸ tt)
+
+pub legal : IsLegalRun run_case book
+legal = record {
+  limits = record {
+    txns = all_numbered (λ k plan. length plan.txns < 2 ^ 16) plans (lit< tt ▸ tt);
+    tries = all_planned (λ plan. plan.tries < 2 ^ 32) plans ((lit< tt ▸ tt) ▸ tt);
+    actors = refl;
+  };
+  opening = refl;
+  history = record {
+    keeps = record {
+      fates = fates;
+      fitting = fitting;
+      readings = λ line is. record {
+        each = λ i e at. one_value (λ it. e.reading ≡ held (line_due it i + ahead_at marks i)) (
+          1000,
+          1,
+        ) (readings i e at) line is;
+      };
+    };
+    numbered = numbers;
+  };
+}
+
+may-11 : MayTake (identity_of run_case 1) past_10 e11.step
+may-11 = record {
+  showing = m9;
+  shown = (lists_of [] (doc_a ∷ []) []);
+  due = (lists_of [] (doc_a ∷ []) []);
+  earlier = inr (inl refl);
+  decided = inr (shown.own_abort 1008992256 refl refl);
+  due_is = licence.of_own ((not_of decides (attempt_number 1 1 1) m10 refl ▹ inl (12, inr refl)));
+  cleared = all_listed (λ d. Once (λ m before. In m9 before × licence.Clears (attempt_number 1 1 1) m9 d m before) past_10) (lists_of [] (doc_a ∷ [])
+      []) (
+        tt,
+        (inl (
+          inl refl,
+          licence.unstaged 1001979904 (licence.unsticks refl) refl (inr (inr (inr (inr (inr (inr (inr (inl (
+            (stage_of (attempt_number 1 1 1) 12 Replace
+                (Some (n 2))),
+            refl,
+            shown.by_stage ((expect.Cas 1), refl, refl),
+          ))))))))),
+        ) ▸ tt),
+        tt,
+      );
+}
+
+may-10 : MayTake (identity_of run_case 1) past_9 e10.step
+may-10 = licence.after_abort (stage_of (attempt_number 1 1 1) 12 Replace (Some (n 2))) (inr (inr (inr (inr (inr (inr (inr (inl (shown.by_stage
+    ((expect.Cas 1), refl, refl)))))))))) (inl ((lists_of [] (doc_a ∷ []) []), shown.own_abort 1008992256 refl refl))
+
+may-9 : MayTake (identity_of run_case 1) past_8 e9.step
+may-9 = record {
+  sent = inr (inr (inr (inr (inr (inr (inr (inl (15000, refl))))))));
+  first = never_of aborts (attempt_number 1 1 1) past_8 refl;
+  named = named-abort (attempt_number 1 1 1) (lists_of [] (doc_a ∷ []) []) (λ d m before. (x : ℕ) × (m.step ≡ step.Unstick d x) × (is_done
+      m.answer.reply ≡ true)) past_8 (inl tt ▸ inl tt ▸ inl tt ▸ inl tt ▸ inl tt ▸ inl tt ▸ inl (λ e. inl refl) ▸ inl tt ▸ inl tt ▸ tt);
+  after_commits = record {
+    unanswered = never_answered (attempt_number 1 1 1) past_8 refl;
+    read = λ h. inl ((entry_of Pending 1000996864 15000 (lists_of [] [] [])), (refl, refl), λ e. different e);
+  };
+}
+
+may-7 : MayTake (identity_of run_case 1) past_6 e7.step
+may-7 = record {
+  written = (not_vain (attempt_number 1 1 1) m6 _ refl ▹ not_vain (attempt_number 1 1 1) m5 _ refl ▹ not_vain (attempt_number 1 1 1) m4 _ refl ▹
+      not_vain (attempt_number 1 1 1) m3 _ refl ▹ done (attempt_number 1 1 1) m2 _ refl ▹ inl (shown.added 15000 1000996864 refl refl));
+  unaborted = never_of aborts (attempt_number 1 1 1) past_6 refl;
+  named = named (attempt_number 1 1 1) (lists_of [] (doc_a ∷ []) []) past_6 (
+    tt,
+    ((elsewhere (attempt_number 1 1 1) doc_a m6 _ refl ▹ elsewhere (attempt_number 1 1 1) doc_a m5 _ refl ▹ elsewhere (attempt_number 1 1 1) doc_a
+        m4 _ refl ▹ elsewhere (attempt_number 1 1 1) doc_a m3 _ refl ▹ inl (
+          (expect.Cas 1),
+          (stage_of (attempt_number 1 1 1) 12 Replace (Some (n 2))),
+          refl,
+          refl,
+          refl,
+        )) ▸ tt),
+    tt,
+  ) (tt ▸ tt ▸ tt ▸ tt ▸ (λ e. inl refl) ▸ tt ▸ tt ▸ tt);
+  again = record {
+    unanswered = never_answered (attempt_number 1 1 1) past_6 refl;
+    read = λ h. inl ((entry_of Pending 1000996864 15000 (lists_of [] [] [])), (refl, refl), λ e. different e);
+  };
+}
+
+may-5 : MayTake (identity_of run_case 1) past_4 e5.step
+may-5 = record {
+  written = (not_vain (attempt_number 1 1 1) m4 _ refl ▹ not_vain (attempt_number 1 1 1) m3 _ refl ▹ done (attempt_number 1 1 1) m2 _ refl ▹ inl
+      (shown.added 15000 1000996864 refl refl));
+  unaborted = never_of aborts (attempt_number 1 1 1) past_4 refl;
+  named = named (attempt_number 1 1 1) (lists_of [] (doc_a ∷ []) []) past_4 (
+    tt,
+    ((elsewhere (attempt_number 1 1 1) doc_a m4 _ refl ▹ elsewhere (attempt_number 1 1 1) doc_a m3 _ refl ▹ inl (
+      (expect.Cas 1),
+      (stage_of (attempt_number 1 1 1) 12 Replace (Some (n 2))),
+      refl,
+      refl,
+      refl,
+    )) ▸ tt),
+    tt,
+  ) (tt ▸ tt ▸ (λ e. inl refl) ▸ tt ▸ tt ▸ tt);
+  again = record {
+    unanswered = never_answered (attempt_number 1 1 1) past_4 refl;
+    read = λ h. inl ((entry_of Pending 1000996864 15000 (lists_of [] [] [])), (refl, refl), λ e. different e);
+  };
+}
+
+may-3 : MayTake (identity_of run_case 1) past_2 e3.step
+may-3 = record {
+  written = (done (attempt_number 1 1 1) m2 _ refl ▹ inl (shown.added 15000 1000996864 refl refl));
+  unaborted = never_of aborts (attempt_number 1 1 1) past_2 refl;
+  named = named (attempt_number 1 1 1) (lists_of [] (doc_a ∷ []) []) past_2 (
+    tt,
+    (inl (
+      (expect.Cas 1),
+      (stage_of (attempt_number 1 1 1) 12 Replace (Some (n 2))),
+      refl,
+      refl,
+      refl,
+    ) ▸ tt),
+    tt,
+  ) ((λ e. inl refl) ▸ tt ▸ tt ▸ tt);
+  again = none_settled past_2 12 (attempt_number 1 1 1) refl;
+}
+
+may-2 : MayTake (identity_of run_case 1) past_1 e2.step
+may-2 = record {
+  added = inl (shown.added 15000 1000996864 refl refl);
+  undecided = never_of decides (attempt_number 1 1 1) past_1 refl;
+  over = licence.on_unstaged 1 refl (inr (inl (Some (n 1), (refl, refl))));
+}
+
+may-1 : MayTake (identity_of run_case 1) past_0 e1.step
+may-1 = record { own = refl; first = never_of adds (attempt_number 1 1 1) past_0 refl }
+
+licensed-1 : IsLicensed (identity_of run_case 1) made_1
+licensed-1 = (may-11 ▸ may-10 ▸ may-9 ▸ tt ▸ may-7 ▸ tt ▸ may-5 ▸ tt ▸ may-3 ▸ may-2 ▸ may-1 ▸ tt ▸ tt)
+
+abbrev IsFor : ℕ → Type 0
+IsFor actor = IsLicensed (identity_of run_case actor) (own_of book actor)
+
+unlicensed : (actor : ℕ) → actor ≢ 1 → IsFor actor
+unlicensed actor ne1 = subst (λ l. IsLicensed (identity_of run_case actor) l) (sym (own-none opening history actor (all_from (λ i e. (e.actor ==
+    actor) ≡ false) history (not_me 1 actor ne1 ▸ not_me 1 actor ne1 ▸ not_me 1 actor ne1 ▸ not_me 1 actor ne1 ▸ not_me 1 actor ne1 ▸ not_me 1 actor
+    ne1 ▸ not_me 1 actor ne1 ▸ not_me 1 actor ne1 ▸ not_me 1 actor ne1 ▸ not_me 1 actor ne1 ▸ not_me 1 actor ne1 ▸ not_me 1 actor ne1 ▸ tt)) (length
+    history))) tt
+
+pub licensed : AreLicensed run_case book
+licensed actor = by_number IsFor 1 (subst (λ l. IsLicensed (identity_of run_case 1) l) (sym own-1) licensed-1) actor (λ ne1. unlicensed actor ne1)
+
+abbrev txn_1_1-terms : transactions.TxnTerms
+txn_1_1-terms = record { client = 1; number = 1; plan = plan_1_1; atrs = 16 }
+
+op_1_1_1_1-follows : operations.OpFollows (transactions.attempt_terms txn_1_1-terms 1000 1) made_1 0 1 walk.nothing_yet (op.Replace doc_a (record {
+  value = n 2;
+})) op_1_1_1_1
+op_1_1_1_1-follows = record {
+  counted = refl;
+  spanned = record { follows = lit≤ tt; next = refl; ends = spans.with_calls m0 m2 (inr (inr (inl refl))) (inl refl) refl refl };
+  answered = inl (
+    (refl, refl),
+    answers.over_reading (record {
+      value = Some (n 1);
+      cas = Some 1;
+      by = None;
+      gone = false;
+      moment = 0;
+    }) (stage_of (attempt_number 1 1 1) 12 Replace (Some (n 2))) refl (answers.on_own refl (ways.unstaged 1 refl refl refl (inr (inr
+        (inl (refl, (refl, refl)))))) refl) refl (record { attempt = refl; kind_is = refl; content_is = refl }) refl,
+  );
+  calls = record {
+    only = ((refl, refl) ▸ (refl, refl, refl) ▸ refl ▸ tt);
+    readings = lit≤ tt;
+    entries = lit≤ tt;
+    added = lit≤ tt;
+    written_last = (never_writes past_1 refl ▸ never_writes past_0 refl ▸ never_writes [] refl ▸ tt);
+  };
+  stands = ((λ e. ((when.At 0), refl)) ▸ (λ e. tt) ▸ (λ e. tt) ▸ tt);
+  failed = (unfailed m2 refl ▸ unfailed m1 refl ▸ unfailed m0 refl ▸ tt);
+  in_time = (lit≤ tt ▸ lit≤ tt ▸ lit≤ tt ▸ tt);
+}
+
+attempt_1_1_1-follows : attempts.AttemptFollows (transactions.attempt_terms txn_1_1-terms 1000 1) made_1 0 attempt_1_1_1
+attempt_1_1_1-follows = record {
+  id = refl;
+  spanned = record {
+    follows = lit≤ tt;
+    next = refl;
+    ends = spans.with_calls m0 m11 (inr (inr (inr (inr (inr (inr (inr (inr (inr (inr (inr (inl refl)))))))))))) (inl refl) refl refl;
+  };
+  ops = (op_1_1_1_1-follows, tt, tt);
+  held = lit≤ tt;
+  cut = [];
+  closing = (m11 ∷ m10 ∷ m9 ∷ m8 ∷ m7 ∷ m6 ∷ m5 ∷ m4 ∷ m3 ∷ []);
+  rest = refl;
+  cut_follows = tt;
+  ended = attempts.all_answered refl;
+  closes = ((refl, inr (inl refl), never_of drops (attempt_number 1 1 1) (m10 ∷ m9 ∷ m8 ∷ m7 ∷ m6 ∷ m5 ∷ m4 ∷ m3 ∷ []) refl) ▸ (
+    inl (
+      12,
+      (lists_of [] (doc_a ∷ []) []),
+      refl,
+      (Replace, inl refl),
+    ),
+    never_unstuck doc_a (m9 ∷ m8 ∷ m7 ∷ m6 ∷ m5 ∷ m4 ∷ m3 ∷ []) refl,
+  ) ▸ (
+    refl,
+    never_of aborts (attempt_number 1 1 1) (m8 ∷ m7 ∷ m6 ∷ m5 ∷ m4 ∷ m3 ∷ []) refl,
+  ) ▸ (
+    refl,
+    inl (
+      ((lists_of [] (doc_a ∷ []) []), refl),
+      inl refl,
+    ),
+  ) ▸ (refl, lit< tt) ▸ (refl, inl (((lists_of [] (doc_a ∷ []) []), refl), inl refl)) ▸ (refl, lit< tt) ▸ (
+    refl,
+    inl (((lists_of [] (doc_a ∷ []) []), refl), inl refl),
+  ) ▸ (refl, lit< tt) ▸ tt);
+  may_commit = λ h. record { all = refl; good = refl; keep = refl };
+  may_abort = λ h. attempts.for_commits refl;
+  third = (
+    (λ e. inr (inr (inr (inl (
+      12,
+      ((entry_of Pending 1000996864 15000 (lists_of [] [] [])), (refl, refl), λ e. different e),
+      refl,
+      inl (((lists_of [] (doc_a ∷ []) []), refl), inl refl),
+    ))))),
+    λ h. refl,
+  );
+  ends = (
+    attempts.for_commits refl,
+    attempts.dropped (inl ((12, refl), inl refl, inr (inl refl))),
+    ((λ h. unfailed m11 refl) ▸ (λ h. unfailed m10 refl) ▸ (λ h. unfailed m9 refl) ▸ (λ h. unfailed m8 refl) ▸ (λ h. absurd (never_of aborts
+        (attempt_number 1 1 1) (m7 ∷ m6 ∷ m5 ∷ m4 ∷ m3 ∷ []) refl h)) ▸ (λ h. unfailed m6 refl) ▸ (λ h. absurd (never_of aborts (attempt_number 1 1 1)
+        (m5 ∷ m4 ∷ m3 ∷ []) refl h)) ▸ (λ h. unfailed m4 refl) ▸ (λ h. absurd (never_of aborts (attempt_number 1 1 1) (m3 ∷ []) refl h)) ▸ tt),
+  );
+}
+
+client_1-follows : FollowsPlan 1 16 (record { txns = plan_1_1 ∷ [] }) made_1 client_1
+client_1-follows = record {
+  txns = (
+    record {
+      start = 1000;
+      start_is = refl;
+      attempts = (attempt_1_1_1-follows, tt, tt);
+      few = lit≤ tt;
+      ends = (transactions.after_commits refl refl, refl);
+    },
+    tt,
+    tt,
+  );
+  whole = inl refl;
+  inside = (lit< tt ▸ lit< tt ▸ lit< tt ▸ lit< tt ▸ lit< tt ▸ lit< tt ▸ lit< tt ▸ lit< tt ▸ lit< tt ▸ lit< tt ▸ lit< tt ▸ lit< tt ▸ tt);
+  counted = refl;
+}
+
+clients : (k : ℕ) (plan : _) (log : _) → numbered run_case.plans k ≡ Some plan → numbered book.clients k ≡ Some log
+    → FollowsPlan k run_case.atrs plan (own_of book k) log
+clients = both_numbered (λ k plan log. FollowsPlan k run_case.atrs plan (own_of book k) log) plans book.clients (subst (λ l. FollowsPlan 1 16 (record
+    { txns = plan_1_1 ∷ [] }) l client_1) (sym own-1) client_1-follows ▸ tt)
+
+rounds : (k n : ℕ) (log : _) → numbered run_case.rounds k ≡ Some n → numbered book.cleaners k ≡ Some log
+    → cleaners.CleanerFollows (cleaner_plan run_case k n) (own_of book (length run_case.plans + k)) log
+rounds = both_numbered (λ k n log. cleaners.CleanerFollows (cleaner_plan run_case k n) (own_of book (length run_case.plans + k)) log) run_case.rounds
+    book.cleaners tt
+
+pub follow : LogsFollow run_case book
+follow = record {
+  clients = record { all = refl; each = clients };
+  cleaners = record { all = refl; each = rounds; sweep = λ ms log is at. absurd (nothing is) };
+}
+
+pub at-end : HasValue run_case book 12 doc_a (Some (n 1))
+unfolding row clock_of
+at-end = (refl, refl)

@@ -1,0 +1,282 @@
+-- A client gets what it has inserted, and cannot insert it again.
+use Rattle.std.proofs.Common.{◌≡◌, ◌≢◌, ℕ, suc, true, false, ◌==◌, inl, inr, [], ◌∷◌, length, Some, None, refl, sym, subst, lit≤, lit<, slice_get, ◌+◌, ◌<◌, ◌≤◌, ◌^◌}
+use Rattle.std.specs.List.Sorted.{IsStrictlySortedBy}
+use Rattle.cbt_base.specs.Clock.{clock_of}
+use Rattle.cbt_base.specs.Ids.{attempt_number}
+use Rattle.cbt_model.specs.Faults.{fate_of}
+use Rattle.cbt_model.specs.Fitting.{step_fits}
+use Rattle.cbt_model.specs.History.{is_done, commits}
+use Rattle.cbt_model.specs.Legal.{calls_below, line_due, ahead_at}
+use Rattle.cbt_base.specs.Clock.{held}
+use Rattle.cbt_model.specs.Table.{row}
+use Rattle.cbt_model.specs.declared.documents.OpKind.TheVariants.{Insert}
+use Rattle.cbt_model.specs.declared.events.Event.{Event}
+use Rattle.cbt_model.specs.declared.steps.Expect.TheVariants as expect
+use Rattle.cbt_model.specs.declared.steps.Step.TheVariants as step
+use Rattle.cbt_book.specs.Cleaners as cleaners
+use Rattle.cbt_book.specs.Licence as licence
+use Rattle.cbt_book.specs.Licence.{IsLicensed, MayTake}
+use Rattle.cbt_book.specs.OwnLists.{Once, In}
+use Rattle.cbt_book.specs.ReadAt as ways
+use Rattle.cbt_book.specs.Shown as shown
+use Rattle.cbt_book.specs.Shown.{adds, aborts, decides}
+use Rattle.cbt_book.specs.Spans as spans
+use Rattle.cbt_expr.specs.declared.plans.Op.TheVariants as op
+use Rattle.cbt_book.specs.declared.operations.When.TheVariants as when
+use Rattle.cbt_core.specs.Attempts as attempts
+use Rattle.cbt_core.specs.Attempts.{drops}
+use Rattle.cbt_core.specs.Clients.{FollowsPlan}
+use Rattle.cbt_core.specs.OpAnswers as answers
+use Rattle.cbt_core.specs.Operations as operations
+use Rattle.cbt_core.specs.Runs.{IsFresh, own_of, identity_of, IsLegalRun, AreLicensed, LogsFollow, cleaner_plan}
+use Rattle.cbt_core.specs.Transactions as transactions
+use Rattle.cbt_core.specs.Walk as walk
+use Rattle.cbt_core.specs.WriteSets.{numbered}
+use Rattle.cbt_rows.proofs.Fits.{fits-n1}
+use Rattle.cbt_rows.proofs.Named.{found-all, both_numbered, nothing, all_listed, named-abort, all_from, own-none, all_numbered, all_planned, one_value, not_me, ◌▸◌, ◌▹◌, by_number}
+use Rattle.cbt_rows.proofs.Never.{never_of, none_settled, not_of, never_writes, not_third, unfailed, no_bool, never_unstuck}
+use Rattle.cbt_rows.specs.Words.{HasValue, doc_a, name_x, n, stage_of, lists_of}
+use Rattle.cbt_rows.specs.OwnWriteIsMet.{opening, past_0, past_1, past_2, past_3, past_4, history, marks, plans, run_case, book, e1, e2, e3, e4, e5, m0, m1, m2, m3, m4, m5, made_1, plan_1_1, client_1, attempt_1_1_1, op_1_1_1_1, op_1_1_1_2, op_1_1_1_3}
+
+own-1 : own_of book 1 ≡ made_1
+unfolding row clock_of
+own-1 = refl
+
+pub fresh : IsFresh opening
+unfolding IsStrictlySortedBy
+fresh = record {
+  ordered = record { docs = tt; entries = tt; clients = tt };
+  entries = refl;
+  clients = refl;
+  unstaged = found-all (λ x. x.stage ≡ None) opening.docs tt;
+  low = found-all (λ x. x.cas ≤ opening.last) opening.docs tt;
+}
+
+fates : (i : ℕ) (e : Event) → slice_get history i ≡ Some e → e.fate ≡ fate_of run_case.faults e.actor (suc (calls_below history e.actor i))
+fates = all_from (λ i e. e.fate ≡ fate_of run_case.faults e.actor (suc (calls_below history e.actor i))) history (refl ▸ refl ▸ refl ▸ refl ▸ refl ▸
+    refl ▸ tt)
+
+fitting : (i : ℕ) (e : Event) → slice_get history i ≡ Some e → step_fits e.step ≡ true
+fitting = all_from (λ i e. step_fits e.step ≡ true) history (refl ▸ refl ▸ fits-n1 ▸ refl ▸ refl ▸ refl ▸ tt)
+
+readings : (i : ℕ) (e : Event) → slice_get history i ≡ Some e → e.reading ≡ held (line_due (1000, 1) i + ahead_at marks i)
+readings = all_from (λ i e. e.reading ≡ held (line_due (1000, 1) i + ahead_at marks i)) history (refl ▸ refl ▸ refl ▸ refl ▸ refl ▸ refl ▸ tt)
+
+actor-1 : (0 < 1) × (1 ≤ run_case.actors)
+actor-1 = (lit< tt, lit≤ tt)
+
+numbers : (i : ℕ) (e : Event) → slice_get history i ≡ Some e → (0 < e.actor) × (e.actor ≤ run_case.actors)
+numbers = all_from (λ i e. (0 < e.actor) × (e.actor ≤ run_case.actors)) history (actor-1 ▸ actor-1 ▸ actor-1 ▸ actor-1 ▸ actor-1 ▸ actor-1 ▸ tt)
+
+pub legal : IsLegalRun run_case book
+legal = record {
+  limits = record {
+    txns = all_numbered (λ k plan. length plan.txns < 2 ^ 16) plans (lit< tt ▸ tt);
+    tries = all_planned (λ plan. plan.tries < 2 ^ 32) plans ((lit< tt ▸ tt) ▸ tt);
+    actors = refl;
+  };
+  opening = refl;
+  history = record {
+    keeps = record {
+      fates = fates;
+      fitting = fitting;
+      readings = λ line is. record {
+        each = λ i e at. one_value (λ it. e.reading ≡ held (line_due it i + ahead_at marks i)) (
+          1000,
+          1,
+        ) (readings i e at) line is;
+      };
+    };
+    numbered = numbers;
+  };
+}
+
+may-5 : MayTake (identity_of run_case 1) past_4 e5.step
+may-5 = record {
+  showing = m3;
+  shown = (lists_of (doc_a ∷ []) [] []);
+  due = (lists_of (doc_a ∷ []) [] []);
+  earlier = inr (inl refl);
+  decided = inr (shown.own_abort 1002962944 refl refl);
+  due_is = licence.of_own ((not_of decides (attempt_number 1 1 1) m4 refl ▹ inl (12, inr refl)));
+  cleared = all_listed (λ d. Once (λ m before. In m3 before × licence.Clears (attempt_number 1 1 1) m3 d m before) past_4) (lists_of (doc_a ∷ []) []
+      []) (
+        (inl (
+          inl refl,
+          licence.unstaged 1001979904 (licence.unsticks refl) refl (inr (inl (
+            (stage_of (attempt_number 1 1 1) 12 Insert (Some (n
+                1))),
+            refl,
+            shown.by_stage (expect.New, refl, refl),
+          ))),
+        ) ▸ tt),
+        tt,
+        tt,
+      );
+}
+
+may-4 : MayTake (identity_of run_case 1) past_3 e4.step
+may-4 = licence.after_abort (stage_of (attempt_number 1 1 1) 12 Insert (Some (n 1))) (inr (inl (shown.by_stage (
+  expect.New,
+  refl,
+  refl,
+)))) (inl ((lists_of (doc_a ∷ []) [] []), shown.own_abort 1002962944 refl refl))
+
+may-3 : MayTake (identity_of run_case 1) past_2 e3.step
+may-3 = record {
+  sent = inr (inl (15000, refl));
+  first = never_of aborts (attempt_number 1 1 1) past_2 refl;
+  named = named-abort (attempt_number 1 1 1) (lists_of (doc_a ∷ []) [] []) (λ d m before. (x : ℕ) × (m.step ≡ step.Unstick d x) × (is_done
+      m.answer.reply ≡ true)) past_2 (inl (λ e. inl refl) ▸ inl tt ▸ inl tt ▸ tt);
+  after_commits = none_settled past_2 12 (attempt_number 1 1 1) refl;
+}
+
+may-2 : MayTake (identity_of run_case 1) past_1 e2.step
+may-2 = record {
+  added = inl (shown.added 15000 1000996864 refl refl);
+  undecided = never_of decides (attempt_number 1 1 1) past_1 refl;
+  over = licence.on_nothing refl;
+}
+
+may-1 : MayTake (identity_of run_case 1) past_0 e1.step
+may-1 = record { own = refl; first = never_of adds (attempt_number 1 1 1) past_0 refl }
+
+licensed-1 : IsLicensed (identity_of run_case 1) made_1
+licensed-1 = (may-5 ▸ may-4 ▸ may-3 ▸ may-2 ▸ may-1 ▸ tt ▸ tt)
+
+abbrev IsFor : ℕ → Type 0
+IsFor actor = IsLicensed (identity_of run_case actor) (own_of book actor)
+
+unlicensed : (actor : ℕ) → actor ≢ 1 → IsFor actor
+unlicensed actor ne1 = subst (λ l. IsLicensed (identity_of run_case actor) l) (sym (own-none opening history actor (all_from (λ i e. (e.actor ==
+    actor) ≡ false) history (not_me 1 actor ne1 ▸ not_me 1 actor ne1 ▸ not_me 1 actor ne1 ▸ not_me 1 actor ne1 ▸ not_me 1 actor ne1 ▸ not_me 1 actor
+    ne1 ▸ tt)) (length history))) tt
+
+pub licensed : AreLicensed run_case book
+licensed actor = by_number IsFor 1 (subst (λ l. IsLicensed (identity_of run_case 1) l) (sym own-1) licensed-1) actor (λ ne1. unlicensed actor ne1)
+
+abbrev txn_1_1-terms : transactions.TxnTerms
+txn_1_1-terms = record { client = 1; number = 1; plan = plan_1_1; atrs = 16 }
+
+op_1_1_1_1-follows : operations.OpFollows (transactions.attempt_terms txn_1_1-terms 1000 1) made_1 0 1 walk.nothing_yet (op.Insert doc_a (record {
+  value = n 1;
+})) op_1_1_1_1
+op_1_1_1_1-follows = record {
+  counted = refl;
+  spanned = record { follows = lit≤ tt; next = refl; ends = spans.with_calls m0 m2 (inr (inr (inl refl))) (inl refl) refl refl };
+  answered = inl (
+    (refl, refl),
+    answers.over_reading (record {
+      value = None;
+      cas = None;
+      by = None;
+      gone = false;
+      moment = 0;
+    }) (stage_of (attempt_number 1 1 1) 12 Insert (Some (n 1))) refl (answers.on_own refl (ways.absent refl refl refl refl (inr (inr
+        (inl (refl, (refl, refl)))))) refl) refl (record { attempt = refl; kind_is = refl; content_is = refl }) refl,
+  );
+  calls = record {
+    only = ((refl, refl) ▸ (refl, refl, refl) ▸ refl ▸ tt);
+    readings = lit≤ tt;
+    entries = lit≤ tt;
+    added = lit≤ tt;
+    written_last = (never_writes past_1 refl ▸ never_writes past_0 refl ▸ never_writes [] refl ▸ tt);
+  };
+  stands = ((λ e. ((when.At 0), refl)) ▸ (λ e. tt) ▸ (λ e. tt) ▸ tt);
+  failed = (unfailed m2 refl ▸ unfailed m1 refl ▸ unfailed m0 refl ▸ tt);
+  in_time = (lit≤ tt ▸ lit≤ tt ▸ lit≤ tt ▸ tt);
+}
+
+op_1_1_1_2-follows : operations.OpFollows (transactions.attempt_terms txn_1_1-terms 1000 1) made_1 3 2 (walk.noted (op.Insert doc_a (record {
+  value =
+      n 1;
+})) op_1_1_1_1 walk.nothing_yet) (op.Get doc_a name_x) op_1_1_1_2
+op_1_1_1_2-follows = record {
+  counted = refl;
+  spanned = record { follows = lit≤ tt; next = refl; ends = spans.without_calls refl refl };
+  answered = (record { kind = Insert; content = Some (n 1); place = 2 }, refl, refl);
+  calls = record { only = tt; readings = lit≤ tt; entries = lit≤ tt };
+  stands = tt;
+  failed = tt;
+  in_time = tt;
+}
+
+op_1_1_1_3-follows : operations.OpFollows (transactions.attempt_terms txn_1_1-terms 1000 1) made_1 3 3 (walk.noted (op.Get doc_a name_x) op_1_1_1_2
+    (walk.noted (op.Insert doc_a (record { value = n 1 })) op_1_1_1_1 walk.nothing_yet)) (op.Insert doc_a (record { value = n 2 })) op_1_1_1_3
+op_1_1_1_3-follows = record {
+  counted = refl;
+  spanned = record { follows = lit≤ tt; next = refl; ends = spans.without_calls refl refl };
+  answered = (refl, (n 1, (record { kind = Insert; content = Some (n 1); place = 2 }, refl, refl)));
+  calls = record { only = tt; readings = lit≤ tt; entries = lit≤ tt; added = lit≤ tt; written_last = tt };
+  stands = tt;
+  failed = tt;
+  in_time = tt;
+}
+
+attempt_1_1_1-follows : attempts.AttemptFollows (transactions.attempt_terms txn_1_1-terms 1000 1) made_1 0 attempt_1_1_1
+attempt_1_1_1-follows = record {
+  id = refl;
+  spanned = record { follows = lit≤ tt; next = refl; ends = spans.with_calls m0 m5 (inr (inr (inr (inr (inr (inl refl)))))) (inl refl) refl refl };
+  ops = (op_1_1_1_1-follows, refl, (op_1_1_1_2-follows, refl, (op_1_1_1_3-follows, tt, tt)));
+  held = lit≤ tt;
+  cut = [];
+  closing = (m5 ∷ m4 ∷ m3 ∷ []);
+  rest = refl;
+  cut_follows = tt;
+  ended = attempts.last_refused refl;
+  closes = ((refl, inr (inl refl), never_of drops (attempt_number 1 1 1) (m4 ∷ m3 ∷ []) refl) ▸ (
+    inl (
+      12,
+      (lists_of (doc_a ∷ []) [] []),
+      refl,
+      (Insert, inl refl),
+    ),
+    never_unstuck doc_a (m3 ∷ []) refl,
+  ) ▸ (refl, never_of aborts (attempt_number 1 1 1) [] refl) ▸ tt);
+  may_commit = λ h. absurd (never_of commits (attempt_number 1 1 1) (m5 ∷ m4 ∷ m3 ∷ []) refl h);
+  may_abort = λ h. attempts.for_answer refl;
+  third = ((λ e. absurd (no_bool (sym e))), λ h. absurd (not_third (attempt_number 1 1 1) (m5 ∷ m4 ∷ m3 ∷ []) (lit≤ tt) h));
+  ends = (
+    attempts.for_answer refl,
+    attempts.dropped (inl ((12, refl), inl refl, inr (inl refl))),
+    ((λ h. unfailed m5 refl) ▸ (λ h. unfailed m4 refl) ▸ (λ h. unfailed m3 refl) ▸ tt),
+  );
+}
+
+client_1-follows : FollowsPlan 1 16 (record { txns = plan_1_1 ∷ [] }) made_1 client_1
+client_1-follows = record {
+  txns = (
+    record {
+      start = 1000;
+      start_is = refl;
+      attempts = (attempt_1_1_1-follows, tt, tt);
+      few = lit≤ tt;
+      ends = (refl, transactions.exists when.Own);
+    },
+    tt,
+    tt,
+  );
+  whole = inl refl;
+  inside = (lit< tt ▸ lit< tt ▸ lit< tt ▸ lit< tt ▸ lit< tt ▸ lit< tt ▸ tt);
+  counted = refl;
+}
+
+clients : (k : ℕ) (plan : _) (log : _) → numbered run_case.plans k ≡ Some plan → numbered book.clients k ≡ Some log
+    → FollowsPlan k run_case.atrs plan (own_of book k) log
+clients = both_numbered (λ k plan log. FollowsPlan k run_case.atrs plan (own_of book k) log) plans book.clients (subst (λ l. FollowsPlan 1 16 (record
+    { txns = plan_1_1 ∷ [] }) l client_1) (sym own-1) client_1-follows ▸ tt)
+
+rounds : (k n : ℕ) (log : _) → numbered run_case.rounds k ≡ Some n → numbered book.cleaners k ≡ Some log
+    → cleaners.CleanerFollows (cleaner_plan run_case k n) (own_of book (length run_case.plans + k)) log
+rounds = both_numbered (λ k n log. cleaners.CleanerFollows (cleaner_plan run_case k n) (own_of book (length run_case.plans + k)) log) run_case.rounds
+    book.cleaners tt
+
+pub follow : LogsFollow run_case book
+follow = record {
+  clients = record { all = refl; each = clients };
+  cleaners = record { all = refl; each = rounds; sweep = λ ms log is at. absurd (nothing is) };
+}
+
+pub at-end : HasValue run_case book 6 doc_a None
+unfolding row clock_of
+at-end = (refl, refl)
