@@ -1,5 +1,5 @@
 -- Items of an order, as they are followed.
-use Rattle.std.proofs.Common.{◌≡◌, ◌≢◌, ℕ, ◌≤◌, ◌⊎◌, ⊎_elim, min, Bool, true, false, List, [], ◌∷◌, ◌++◌, append_assoc, length, Some, None, refl, sym, ap, ◌∙◌, subst, arith, replicate}
+use Rattle.std.proofs.Common.{◌≡◌, ◌≢◌, ℕ, ◌≤◌, ◌⊎◌, ⊎_elim, min, Bool, true, false, List, [], ◌∷◌, ◌++◌, append_assoc, length, Option, Some, None, refl, sym, ap, ◌∙◌, subst, arith, replicate}
 use Rattle.std.proofs.lemmas.List.{append-nil}
 use Rattle.cbt_model.specs.declared.events.Item.{Item}
 use Rattle.cbt_model.specs.declared.events.Item.TheVariants as item
@@ -49,6 +49,29 @@ module _ (actor : ℕ) (refused : Bool) (marks marks' : List Mark) (old new : Li
   pub follows-all : (it : Item) → it ≡ item.All actor → Visits actor None old new (asking actor) (asking' actor)
       → Follows (it ∷ []) refused marks marks' old new asking asking' n
   follows-all it is visit = subst (λ x. Follows (x ∷ []) refused marks marks' old new asking asking' n) (sym is) (follows-each visit)
+
+-- the actor of whom an item asks calls, and up to how many, where it says so
+abbrev pub asked_of : Item → Option (ℕ × Option ℕ)
+asked_of (item.Calls actor k) = Some (actor, Some k)
+asked_of (item.All actor) = Some (actor, None)
+asked_of (item.Ahead ms) = None
+
+some-same : {X : Type 0} (x y : X) → Some x ≡ Some y → x ≡ y
+some-same x y same = cc
+
+pub follows-asked : (it : Item) (asked : ℕ × Option ℕ) → asked_of it ≡ Some asked
+    → (refused : Bool) (marks marks' : List Mark) (old new : List ℕ) (asking asking' : ℕ → Bool) → ((b : ℕ) → b ≢ asked.0 → asking' b ≡ asking b)
+    → marks' ≡ marks → (n : ℕ → ℕ) → Agrees new asking' n → Visits asked.0 asked.1 old new (asking asked.0) (asking' asked.0)
+    → Follows (it ∷ []) refused marks marks' old new asking asking' n
+follows-asked (item.Calls actor k) asked is refused marks marks' old new asking asking' others unmarked n agreed visit =
+    let same = some-same (actor, Some k) asked is in
+    follows-calls asked.0 refused marks marks' old new asking asking' others unmarked n agreed (item.Calls actor k) k (ap (λ p. item.Calls p.0 k) same)
+    (subst (λ limit. Visits asked.0 limit old new (asking asked.0) (asking' asked.0)) (sym (ap (λ p. p.1) same)) visit)
+follows-asked (item.All actor) asked is refused marks marks' old new asking asking' others unmarked n agreed visit =
+    let same = some-same (actor, None) asked is in
+    follows-all asked.0 refused marks marks' old new asking asking' others unmarked n agreed (item.All actor) (ap (λ p. item.All p.0) same)
+    (subst (λ limit. Visits asked.0 limit old new (asking asked.0) (asking' asked.0)) (sym (ap (λ p. p.1) same)) visit)
+follows-asked (item.Ahead ms) asked is refused marks marks' old new asking asking' others unmarked n agreed visit = absurd (cc)
 
 -- the clock was moved ahead
 module _ (it : Item) (ms : ℕ) (is : it ≡ item.Ahead ms) (marks marks' : List Mark) (old new : List ℕ) (same : new ≡ old) (asking : ℕ → Bool) (n : ℕ → ℕ) (agreed : Agrees new asking n) where

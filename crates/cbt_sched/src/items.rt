@@ -46,40 +46,20 @@ fn follow_item<N: Node, A: Actor>(
         (callers (N.history node.old)) (callers (N.history node.new)) (asks A.step_now first actors.old) (asks A.step_now first actors.new) n }
     ensures refused { refused.new ≡ false → refused.old ≡ false }
 {
-    match item {
-        Item::Calls { actor, k } => {
-            if let Some(place) = place_of(first, actors.len(), actor) {
-                let stop = first_stop(stops, actor);
-                make_calls(
-                    alloc,
-                    node,
-                    actor,
-                    stop,
-                    Some(k),
-                    actors.at_mut(place),
-                    refused,
-                );
-            }
-        }
-        Item::All { actor } => {
-            if let Some(place) = place_of(first, actors.len(), actor) {
-                let stop = first_stop(stops, actor);
-                make_calls(
-                    alloc,
-                    node,
-                    actor,
-                    stop,
-                    None,
-                    actors.at_mut(place),
-                    refused,
-                );
-            }
-        }
+    let (number, limit) = match item {
+        Item::Calls { actor, k } => (actor, Some(k)),
+        Item::All { actor } => (actor, None),
         Item::Ahead { ms } => {
             if node.advance(ms).is_err() {
                 *refused = true;
             }
+            return;
         }
+    };
+    if let Some(place) = place_of(first, actors.len(), number) {
+        let stop = first_stop(stops, number);
+        let actor = actors.at_mut(place);
+        make_calls(alloc, node, number, stop, limit, actor, refused);
     }
 }
 
