@@ -249,7 +249,7 @@ module _ (case : Case) (book : Book) (legal : IsLegalRun case book) (follow : Lo
     told = noted_all it.t l it.at it.at 1 nothing_yet it.t.plan.ops it.attempt.ops it.follows.ops (omega arith) (noted_none it.t l it.at)
 
     -- a call of its operations that took effect was done
-    done_in_ops : (k : ℕ) (w : Event) → In (made_at s0 h k w) l → it.at ≤ k → k < ops_to → TakesEffect s0 h k w → is_done (made_at s0 h k w).answer.reply ≡ true
+    pub done_in_ops : (k : ℕ) (w : Event) → In (made_at s0 h k w) l → it.at ≤ k → k < ops_to → TakesEffect s0 h k w → is_done (made_at s0 h k w).answer.reply ≡ true
     done_in_ops k w there low early takes2 =
         ⊎_elim (λ done. ap is_done done)
         (λ (failed : (made_at s0 h k w).answer.reply ≡ reply.Failed). absurd (none_failed it.t l it.at 1 nothing_yet it.t.plan.ops it.attempt.ops (made_at s0 h k w) it.follows.ops kept.keeps.good there low early failed))

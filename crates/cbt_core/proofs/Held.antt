@@ -30,7 +30,7 @@ decided_pending state other is pending apart = apart (sym is ∙ pending)
 
 module _ (s0 : State) (h : List Event) (lawful : Lawful s0 h) where
   -- an entry that was decided is not pending later
-  not_pending_later : (r a : ℕ) (lists : Lists) (state : EntryState) (i : ℕ) (e : Entry) → WasDecided s0 h lawful r a lists state i → state ≢ Pending
+  pub not_pending_later : (r a : ℕ) (lists : Lists) (state : EntryState) (i : ℕ) (e : Entry) → WasDecided s0 h lawful r a lists state i → state ≢ Pending
       → entry_then s0 h lawful i (r, a) ≡ Some e → e.state ≡ Pending → ⊥
   not_pending_later r a lists state i e was apart there pending =
       let decided : was.entry.state ≢ Pending = λ q. absurd (apart (sym was.state_is ∙ q)) in

@@ -1,10 +1,12 @@
 -- The parts of a log by their numbers.
-use Rattle.std.proofs.Common.{◌≡◌, ℕ, zero, suc, ◌+◌, ◌-◌, List, [], ◌∷◌, take, slice_get, option_and_then, Option, Some, None, refl, sym, ap, ◌∙◌, subst, arith}
+use Rattle.std.proofs.Common.{◌≡◌, ℕ, zero, suc, ◌+◌, ◌-◌, ◌<◌, ◌≤◌, ⊎_elim, List, [], ◌∷◌, take, slice_get, option_and_then, Option, Some, None, refl, sym, ap, ◌∙◌, subst, arith}
+use Rattle.std.proofs.lemmas.Bool.{cases_lt}
 use Rattle.std.proofs.lemmas.Option.{none-some}
 use Rattle.cbt_expr.specs.declared.plans.ClientPlan.{ClientPlan}
 use Rattle.cbt_expr.specs.declared.plans.Op.{Op}
 use Rattle.cbt_expr.specs.declared.plans.TxnPlan.{TxnPlan}
 use Rattle.cbt_model.specs.declared.events.Made.{Made}
+use Rattle.cbt_book.specs.OwnLists.{In, during}
 use Rattle.cbt_book.specs.declared.book.Book.{Book}
 use Rattle.cbt_book.specs.declared.clients.AttemptLog.{AttemptLog}
 use Rattle.cbt_book.specs.declared.clients.ClientLog.{ClientLog}
@@ -13,12 +15,14 @@ use Rattle.cbt_book.specs.declared.operations.OpLog.{OpLog}
 use Rattle.cbt_core.specs.Attempts.{AttemptFollows}
 use Rattle.cbt_core.specs.Clients.{TxnsFollow}
 use Rattle.cbt_core.specs.Walk.{AttemptTerms, Sofar, noted, walked, nothing_yet}
-use Rattle.cbt_core.specs.Operations.{OpFollows, OpsFollow}
+use Rattle.cbt_core.specs.Operations.{OpFollows, OpsFollow, ops_end}
 use Rattle.cbt_core.specs.Right.{IsAnswer}
 use Rattle.cbt_core.specs.Runs.{IsLegalRun, LogsFollow, own_of}
 use Rattle.cbt_core.specs.Transactions.{TxnTerms, attempt_terms, AttemptsFollow, TxnFollows, attempts_end}
 use Rattle.cbt_core.specs.WriteSets.{numbered, plan_at, txn_at, attempt_at}
 use Rattle.cbt_core.specs.declared.case.Case.{Case}
+use Rattle.cbt_core.proofs.Calls.{in_during, after_gap}
+use Rattle.cbt_core.proofs.Noted.{span_order}
 use Rattle.cbt_core.proofs.Past.{some_same}
 
 plus_none : (n : ℕ) → n ≡ n + 0
@@ -29,6 +33,9 @@ plus_one n i = omega arith
 
 one_more : (i : ℕ) → 1 + i ≡ suc i
 one_more i = omega arith
+
+pub minus_one : (j : ℕ) → suc j - 1 ≡ j
+minus_one j = omega arith
 
 -- the operation with this number
 pub record OpAt (t : AttemptTerms) (l : List Made) (o : Op) (log : OpLog) (so : Sofar) : Type 0 where
@@ -51,6 +58,57 @@ op_at t l at n so (p ∷ ops) (x ∷ logs) zero o log follow op_is log_is =
     let log_same : x ≡ log = some_same log_is in
     record { at = at; number = n; follows = subst (λ q. OpFollows t l at n so q log) op_same (subst (λ y. OpFollows t l at n so p y) log_same follow.0) }
 op_at t l at n so (p ∷ ops) (x ∷ logs) (suc j) o log follow op_is log_is = op_at t l x.span.to (suc n) (noted p x so) ops logs j o log follow.2 op_is log_is
+
+-- the operation of a call, with its number
+pub record OpIndex (t : AttemptTerms) (l : List Made) (so : Sofar) (ops : List Op) (logs : List OpLog) (m : Made) : Type 0 where
+  pub index : ℕ
+  pub at : ℕ
+  pub number : ℕ
+  pub op : Op
+  pub log : OpLog
+  pub op_is : slice_get ops index ≡ Some op
+  pub log_is : slice_get logs index ≡ Some log
+  pub follows : OpFollows t l at number (walked (take index ops) (take index logs) so) op log
+  pub inside : In m (during log.span l)
+
+pub op_index : (t : AttemptTerms) (l : List Made) (at n : ℕ) (so : Sofar) (ops : List Op) (logs : List OpLog) (m : Made) → OpsFollow t l at n so ops logs → In m l → at ≤ m.answer.place
+    → m.answer.place < ops_end at logs → OpIndex t l so ops logs m
+op_index t l at n so ops [] m follow there low high = absurd (omega arith)
+op_index t l at n so [] (x ∷ logs) m follow there low high = absurd follow
+op_index t l at n so (p ∷ ops) (x ∷ logs) m follow there low high =
+    ⊎_elim (λ (inside : m.answer.place < x.span.to). record {
+      index = 0;
+      at = at;
+      number = n;
+      op = p;
+      log = x;
+      op_is = refl;
+      log_is = refl;
+      follows = follow.0;
+      inside = in_during x.span m l there (after_gap l at x.span m follow.0.spanned there low) inside;
+    })
+    (λ (past : x.span.to ≤ m.answer.place).
+    let it = op_index t l x.span.to (suc n) (noted p x so) ops logs m follow.2 there past high in
+    record { index = suc it.index; at = it.at; number = it.number; op = it.op; log = it.log; op_is = it.op_is; log_is = it.log_is; follows = it.follows; inside = it.inside })
+    (cases_lt m.answer.place x.span.to)
+
+-- operations follow one another in place
+later_from : (t : AttemptTerms) (l : List Made) (at n : ℕ) (so : Sofar) (ops : List Op) (logs : List OpLog) (j : ℕ) (y : OpLog) → OpsFollow t l at n so ops logs → slice_get logs j ≡ Some y → at ≤ y.span.from
+later_from t l at n so ops [] j y follow is = absurd (none-some y is)
+later_from t l at n so [] (x ∷ logs) j y follow is = absurd follow
+later_from t l at n so (p ∷ ops) (x ∷ logs) zero y follow is = subst (λ (w : OpLog). at ≤ w.span.from) (some_same is) follow.0.spanned.follows
+later_from t l at n so (p ∷ ops) (x ∷ logs) (suc j) y follow is =
+    let rest = later_from t l x.span.to (suc n) (noted p x so) ops logs j y follow.2 is in
+    let a = follow.0.spanned.follows in let b = span_order l at x.span follow.0.spanned in omega arith
+
+pub ends_before : (t : AttemptTerms) (l : List Made) (at n : ℕ) (so : Sofar) (ops : List Op) (logs : List OpLog) (i j : ℕ) (x y : OpLog) → OpsFollow t l at n so ops logs → slice_get logs i ≡ Some x
+    → slice_get logs j ≡ Some y → i < j → x.span.to ≤ y.span.from
+ends_before t l at n so ops [] i j x y follow is its low = absurd (none-some x is)
+ends_before t l at n so [] (z ∷ logs) i j x y follow is its low = absurd follow
+ends_before t l at n so (p ∷ ops) (z ∷ logs) i zero x y follow is its low = absurd (omega arith)
+ends_before t l at n so (p ∷ ops) (z ∷ logs) zero (suc j) x y follow is its low =
+    subst (λ (w : OpLog). w.span.to ≤ y.span.from) (some_same is) (later_from t l z.span.to (suc n) (noted p z so) ops logs j y follow.2 its)
+ends_before t l at n so (p ∷ ops) (z ∷ logs) (suc i) (suc j) x y follow is its low = ends_before t l z.span.to (suc n) (noted p z so) ops logs i j x y follow.2 is its (omega arith)
 
 -- the attempt with this number
 pub record TryAt (x : TxnTerms) (l : List Made) (start k : ℕ) (log : AttemptLog) : Type 0 where
@@ -143,9 +201,6 @@ module _ (case : Case) (book : Book) (legal : IsLegalRun case book) (follow : Lo
     pub at : ℕ
     pub number : ℕ
     pub follows : OpFollows t (own_of book client) at number so o log
-
-  minus_one : (j : ℕ) → suc j - 1 ≡ j
-  minus_one j = omega arith
 
   pub op_of_run : (client txn try_no n : ℕ) (o : Op) (log : OpLog) (so : Sofar) (it : IsAnswer case book client txn try_no n o log so) → OpOf client txn try_no it.plan o log so
   op_of_run client txn try_no n o log so it =

@@ -24,3 +24,4 @@ pub mod RightAnswers
 pub mod Passed
 pub mod Once
 pub mod Counting
+pub mod Updates

@@ -237,7 +237,7 @@ module _ (case : Case) (book : Book) (legal : IsLegalRun case book) (follow : Lo
     pub in_try : TryOf case book legal follow client txn try_no in_txn.plan log
     in_try = try_of_run case book legal follow client txn try_no plan.0 log in_txn.plan plan.1 in_txn.plan_is log_is
 
-    numbers : Decodes (attempt_number client txn try_no) client txn try_no
+    pub numbers : Decodes (attempt_number client txn try_no) client txn try_no
     numbers =
         let p = found (numbered case.plans client) (λ (y : ClientPlan). numbered y.txns txn) in_txn.plan in_txn.plan_is in
         decodes client txn try_no (small_txn case book legal follow p.0 client txn in_txn.plan p.1 p.2)

@@ -19,7 +19,7 @@ use Rattle.cbt_book.specs.ReadAt as ways
 use Rattle.cbt_book.specs.Shown.{ReadsDoc, FindsNoDoc, ReadsEntry, FindsNoEntry}
 use Rattle.cbt_core.proofs.Answers.{DocShown, doc_told, no_doc_told, entry_told, no_entry_told}
 use Rattle.cbt_core.proofs.Calls.{filter_in}
-use Rattle.cbt_core.proofs.Documents.{same_at_cas, same_between}
+use Rattle.cbt_core.proofs.Documents.{doc_then, same_at_cas, same_between}
 use Rattle.cbt_core.proofs.Entries.{entry_then, stays_decided}
 use Rattle.cbt_core.proofs.Lawful.{Lawful}
 use Rattle.cbt_core.proofs.Past.{Whose, mine, other, whose, in_at, Member}
@@ -93,34 +93,42 @@ module _ (s0 : State) (h : List Event) (lawful : Lawful s0 h) (actor : ℕ) wher
     no_commit_entry : (r b : ℕ) (st : Step) (a : ℕ) → st ≡ step.ReadEntry r b → commits st ≡ Some a → ⊥
     no_commit_entry r b st a is commit_is = none-some a (sym (ap commits is) ∙ commit_is)
 
+    -- the document at the moment of a reading has the CAS that was read
+    pub data HasCasAt (d : List ℕ) (it : Reading) : Type 0 where
+      missing : it.cas ≡ None → doc_then s0 h lawful it.moment d ≡ None → HasCasAt d it
+      standing : (x : ℕ) (doc : DocState) → it.cas ≡ Some x → doc_then s0 h lawful it.moment d ≡ Some doc → doc.cas ≡ x → HasCasAt d it
+
     -- what a document resolves to where a reading was made, with the moment
     pub record Resolves (d : List ℕ) (it : Reading) : Type 0 where
       pub value_is : view_then s0 h lawful it.moment d ≡ it.value
       pub moment : Moment it.moment
+      pub cas_is : HasCasAt d it
 
-    by_absent : (d : List ℕ) (it : Reading) → it.value ≡ None → Found (λ m _. (m.answer.place ≡ it.moment) × FindsNoDoc d m) l → Resolves d it
-    by_absent d it none f =
+    by_absent : (d : List ℕ) (it : Reading) → it.value ≡ None → it.cas ≡ None → Found (λ m _. (m.answer.place ≡ it.moment) × FindsNoDoc d m) l → Resolves d it
+    by_absent d it none no_cas f =
         let e = event_of f.call (part f.call f.there) in
         let at : e.place ≡ it.moment = sym (place_of f.call e) ∙ f.holds.0 in
         let gone = no_doc_told s0 h e.place e.event d (ap (λ (n : Made). n.step) (sym e.made) ∙ f.holds.1.0) (ap (λ (n : Made). n.answer.reply) (sym e.made) ∙ f.holds.1.1) in
         record {
           value_is = ap (λ i. view_then s0 h lawful i d) (sym at) ∙ view_none (after s0 h e.place) d gone ∙ sym none;
           moment = record { call = f.call; there = f.there; at = f.holds.0; reads = λ a is. no_commit_doc d f.call.step a f.holds.1.0 is };
+          cas_is = missing no_cas (subst (λ i. doc_then s0 h lawful i d ≡ None) at gone);
         }
 
-    by_unstaged : (d : List ℕ) (it : Reading) (x : ℕ) → Found (λ m _. (m.answer.place ≡ it.moment) × ReadsDoc d x it.value None m) l → Resolves d it
-    by_unstaged d it x f =
+    by_unstaged : (d : List ℕ) (it : Reading) (x : ℕ) → it.cas ≡ Some x → Found (λ m _. (m.answer.place ≡ it.moment) × ReadsDoc d x it.value None m) l → Resolves d it
+    by_unstaged d it x cas f =
         let e = event_of f.call (part f.call f.there) in
         let at : e.place ≡ it.moment = sym (place_of f.call e) ∙ f.holds.0 in
         let doc = read_doc f.call e d x it.value None f.holds.1 in
         record {
           value_is = ap (λ i. view_then s0 h lawful i d) (sym at) ∙ view_free (after s0 h e.place) d doc.doc doc.there doc.stage_is ∙ doc.body_is;
           moment = record { call = f.call; there = f.there; at = f.holds.0; reads = λ a is. no_commit_doc d f.call.step a f.holds.1.0 is };
+          cas_is = standing x doc.doc cas (subst (λ i. doc_then s0 h lawful i d ≡ Some doc.doc) at doc.there) doc.cas;
         }
 
-    by_uncommitted : (d : List ℕ) (it : Reading) (x : ℕ) (stage : Stage) (e : Entry) → e.state ≢ Committed
+    by_uncommitted : (d : List ℕ) (it : Reading) (x : ℕ) (stage : Stage) (e : Entry) → e.state ≢ Committed → it.cas ≡ Some x
         → Found (λ m before. ReadsEntry stage.atr stage.attempt e m × Once (λ n _. (n.answer.place ≡ it.moment) × ReadsDoc d x it.value (Some stage) n) before) l → Resolves d it
-    by_uncommitted d it x stage e apart f = go (found_at (λ n _. (n.answer.place ≡ it.moment) × ReadsDoc d x it.value (Some stage) n) f.past f.falls f.holds.1)
+    by_uncommitted d it x stage e apart cas f = go (found_at (λ n _. (n.answer.place ≡ it.moment) × ReadsDoc d x it.value (Some stage) n) f.past f.falls f.holds.1)
       where
         go : Found (λ n _. (n.answer.place ≡ it.moment) × ReadsDoc d x it.value (Some stage) n) f.past → Resolves d it
         go g =
@@ -138,6 +146,7 @@ module _ (s0 : State) (h : List Event) (lawful : Lawful s0 h) (actor : ℕ) wher
                   (λ y there q. apart ((stays_decided s0 h lawful doc_event.place entry_event.place (stage.atr, stage.attempt) y e later there (committed_not_pending y q) entry).0 ∙ q))
                   ∙ doc.body_is;
               moment = record { call = g.call; there = in_l.0; at = g.holds.0; reads = λ a is. no_commit_doc d g.call.step a g.holds.1.0 is };
+              cas_is = standing x doc.doc cas (subst (λ i. doc_then s0 h lawful i d ≡ Some doc.doc) at doc.there) doc.cas;
             }
           where
             committed_not_pending : (y : Entry) → y.state ≡ Committed → y.state ≢ Pending
@@ -146,11 +155,11 @@ module _ (s0 : State) (h : List Event) (lawful : Lawful s0 h) (actor : ℕ) wher
                 differ : Committed ≡ Pending → ⊥
                 differ q = cc
 
-    by_committed : (d : List ℕ) (it : Reading) (x : ℕ) (stage : Stage) (e : Entry) → it.value ≡ stage.content → e.state ≡ Committed
+    by_committed : (d : List ℕ) (it : Reading) (x : ℕ) (stage : Stage) (e : Entry) → it.value ≡ stage.content → e.state ≡ Committed → it.cas ≡ Some x
         → Found (λ m before. ((body : Option Json) × (again : Option Stage) × ReadsDoc d x body again m)
         × Once (λ n earlier. (n.answer.place ≡ it.moment) × ReadsEntry stage.atr stage.attempt e n
         × Once (λ k _. (body : Option Json) × ReadsDoc d x body (Some stage) k) earlier) before) l → Resolves d it
-    by_committed d it x stage e value state f =
+    by_committed d it x stage e value state cas f =
         go (found_at (λ n earlier. (n.answer.place ≡ it.moment) × ReadsEntry stage.atr stage.attempt e n × Once (λ k _. (body : Option Json) × ReadsDoc d x body (Some stage) k) earlier) f.past f.falls f.holds.1)
       where
         go : Found (λ n earlier. (n.answer.place ≡ it.moment) × ReadsEntry stage.atr stage.attempt e n × Once (λ k _. (body : Option Json) × ReadsDoc d x body (Some stage) k) earlier) f.past → Resolves d it
@@ -178,12 +187,13 @@ module _ (s0 : State) (h : List Event) (lawful : Lawful s0 h) (actor : ℕ) wher
                       ap (λ i. view_then s0 h lawful i d) (sym at) ∙ view_held (after s0 h entry_event.place) d first_doc.doc stage here first_doc.stage_is
                       ∙ ap (λ o. resolved first_doc.doc.body stage.content o) entry ∙ as_content first_doc.doc.body stage.content e state ∙ sym value;
                   moment = record { call = g.call; there = entry_in.0; at = g.holds.0; reads = λ a is. no_commit_entry stage.atr stage.attempt g.call.step a g.holds.1.0 is };
+                  cas_is = standing x first_doc.doc cas (subst (λ i. doc_then s0 h lawful i d ≡ Some first_doc.doc) at here) first_doc.cas;
                 }
 
-    by_dead : (d : List ℕ) (it : Reading) (x : ℕ) (stage : Stage)
+    by_dead : (d : List ℕ) (it : Reading) (x : ℕ) (stage : Stage) → it.cas ≡ Some x
         → Found (λ m before. (m.answer.place ≡ it.moment) × ((again : Option Stage) × ReadsDoc d x it.value again m)
         × Once (λ n earlier. FindsNoEntry stage.atr stage.attempt n × Once (λ k _. (body : Option Json) × ReadsDoc d x body (Some stage) k) earlier) before) l → Resolves d it
-    by_dead d it x stage f =
+    by_dead d it x stage cas f =
         go (found_at (λ n earlier. FindsNoEntry stage.atr stage.attempt n × Once (λ k _. (body : Option Json) × ReadsDoc d x body (Some stage) k) earlier) f.past f.falls f.holds.2)
       where
         go : Found (λ n earlier. FindsNoEntry stage.atr stage.attempt n × Once (λ k _. (body : Option Json) × ReadsDoc d x body (Some stage) k) earlier) f.past → Resolves d it
@@ -213,21 +223,22 @@ module _ (s0 : State) (h : List Event) (lawful : Lawful s0 h) (actor : ℕ) wher
                       ∙ view_held (after s0 h now_event.place) d now_doc.doc stage now_doc.there (ap (λ (y : DocState). y.stage) (sym same) ∙ first_doc.stage_is)
                       ∙ ap (λ o. resolved now_doc.doc.body stage.content o) dead ∙ now_doc.body_is;
                   moment = record { call = f.call; there = f.there; at = f.holds.0; reads = λ a is. no_commit_doc d f.call.step a f.holds.1.1.0 is };
+                  cas_is = standing x now_doc.doc cas (subst (λ i. doc_then s0 h lawful i d ≡ Some now_doc.doc) at now_doc.there) now_doc.cas;
                 }
 
     -- each way of reading tells what the document resolved to
     pub read_right : (d : List ℕ) (it : Reading) → IsReadAt d it l → Resolves d it
-    read_right d it (ways.absent value cas by gone once) = by_absent d it value (found_at (λ m _. (m.answer.place ≡ it.moment) × FindsNoDoc d m) l falls once)
-    read_right d it (ways.unstaged x cas by gone once) = by_unstaged d it x (found_at (λ m _. (m.answer.place ≡ it.moment) × ReadsDoc d x it.value None m) l falls once)
+    read_right d it (ways.absent value cas by gone once) = by_absent d it value cas (found_at (λ m _. (m.answer.place ≡ it.moment) × FindsNoDoc d m) l falls once)
+    read_right d it (ways.unstaged x cas by gone once) = by_unstaged d it x cas (found_at (λ m _. (m.answer.place ≡ it.moment) × ReadsDoc d x it.value None m) l falls once)
     read_right d it (ways.uncommitted x stage e cas by gone apart once) =
-        by_uncommitted d it x stage e apart
+        by_uncommitted d it x stage e apart cas
         (found_at (λ m before. ReadsEntry stage.atr stage.attempt e m × Once (λ n _. (n.answer.place ≡ it.moment) × ReadsDoc d x it.value (Some stage) n) before) l falls once)
     read_right d it (ways.committed x stage e cas by gone value state once) =
-        by_committed d it x stage e value state
+        by_committed d it x stage e value state cas
         (found_at (λ m before. ((body : Option Json) × (again : Option Stage) × ReadsDoc d x body again m)
         × Once (λ n earlier. (n.answer.place ≡ it.moment) × ReadsEntry stage.atr stage.attempt e n
         × Once (λ k _. (body : Option Json) × ReadsDoc d x body (Some stage) k) earlier) before) l falls once)
     read_right d it (ways.dead x stage cas by gone once) =
-        by_dead d it x stage
+        by_dead d it x stage cas
         (found_at (λ m before. (m.answer.place ≡ it.moment) × ((again : Option Stage) × ReadsDoc d x it.value again m)
         × Once (λ n earlier. FindsNoEntry stage.atr stage.attempt n × Once (λ k _. (body : Option Json) × ReadsDoc d x body (Some stage) k) earlier) before) l falls once)

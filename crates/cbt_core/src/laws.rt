@@ -7,7 +7,7 @@ ghost use Rattle.cbt_model.specs.declared.events.Event.{Event};
 ghost use Rattle.cbt_model.specs.declared.states.State.{State};
 ghost use Rattle.cbt_core.specs.Committed.{table_at, table_of, commits_count};
 ghost use Rattle.cbt_core.specs.Invariant.{StampsRise, AddedOnce, DecidedOnce, HeldWhilePending, ListedWhenDecided, GoneWhenFinished, ShownStays};
-ghost use Rattle.cbt_core.specs.Laws.{NeverBoth, CommitsOnce, NoCommitDecided, DocumentsCommitted, PassesLeaveNothing, AtMostOnce};
+ghost use Rattle.cbt_core.specs.Laws.{NeverBoth, CommitsOnce, NoCommitDecided, DocumentsCommitted, NoUpdateLost, PassesLeaveNothing, AtMostOnce};
 ghost use Rattle.cbt_core.specs.Openings.{AreFresh, IsSound};
 ghost use Rattle.cbt_core.specs.Right.{AnswersRight, MomentsRise};
 ghost use Rattle.cbt_core.specs.Runs.{AreLicensed, IsFresh, IsLegalRun, LogsFollow};
@@ -99,6 +99,20 @@ pub fn k4(case: &Case, book: &Book)
     requires fresh { AreFresh case.now.opening book.now.kept.history }
     requires follow { LogsFollow case.now book.now }
     ensures passes { PassesLeaveNothing book.now }
+{
+    let _ = case;
+    let _ = book;
+}
+
+/// No update is lost: between the moment at which a committed attempt read a document that it wrote and
+/// its commit, no other attempt commits a write of that document.
+pub fn k5(case: &Case, book: &Book)
+    requires legal { IsLegalRun case.now book.now }
+    requires licensed { AreLicensed case.now book.now }
+    requires sound { IsSound case.now.opening }
+    requires fresh { AreFresh case.now.opening book.now.kept.history }
+    requires follow { LogsFollow case.now book.now }
+    ensures none_lost { NoUpdateLost case.now book.now }
 {
     let _ = case;
     let _ = book;
