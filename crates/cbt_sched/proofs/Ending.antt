@@ -50,7 +50,7 @@ all_stand-begun {A} stands_for step_now is_stopped same_origin first stops refus
           cause = λ fine running stopped. absurd (let clash : true ≡ false = sym stopped ∙ ap is_stopped (sym same) ∙ running in cc);
         }
 
--- calls by actor and by place
+-- calls by place and by actor
 calls_below-all : (h more : List Event) (a : ℕ) → calls_below (h ++ more) a (length (h ++ more)) ≡ calls_below h a (length h) + calls_of (callers more) a
 calls_below-all h [] a = ap (λ x. calls_below x a (length x)) (append-nil h) ∙ plus-none (calls_below h a (length h))
   where
@@ -65,7 +65,7 @@ calls_below-all h (e ∷ more) a =
     plus-assoc : (l m n : ℕ) → l + m + n ≡ l + (m + n)
     plus-assoc l m n = omega arith
 
-calls_below-callers : (h : List Event) (a : ℕ) → calls_below h a (length h) ≡ calls_of (callers h) a
+pub calls_below-callers : (h : List Event) (a : ℕ) → calls_below h a (length h) ≡ calls_of (callers h) a
 calls_below-callers h a = calls_below-all [] h a ∙ zero-plus (calls_of (callers h) a)
   where
     zero-plus : (n : ℕ) → 0 + n ≡ n
