@@ -35,3 +35,4 @@ pub mod LostEntryIsRolledBackTrial
 pub mod StopBeforeStagingTrial
 pub mod WriteExpiresTrial
 pub mod CleanersCutOffTrial
+pub mod Premises

@@ -17,6 +17,8 @@ use Rattle.cbt_model.specs.declared.steps.Step.TheVariants as step
 use Rattle.cbt_book.specs.declared.book.Book.{Book}
 use Rattle.cbt_book.specs.declared.cleaners.CleanerLog.{CleanerLog}
 use Rattle.cbt_book.specs.declared.cleaners.PassEnd.TheVariants as pass_end
+use Rattle.cbt_book.specs.declared.cleaners.PassLog.{PassLog}
+use Rattle.cbt_book.specs.declared.cleaners.RoundLog.{RoundLog}
 use Rattle.cbt_book.specs.declared.clients.AttemptEnd.TheVariants as attempt_end
 use Rattle.cbt_book.specs.declared.clients.AttemptLog.{AttemptLog}
 use Rattle.cbt_book.specs.declared.clients.ClientLog.{ClientLog}
@@ -225,8 +227,14 @@ txn_2_1 = record { attempts = attempt_2_1_1 ∷ []; end = txn_end.Committed true
 abbrev pub client_2 : ClientLog
 client_2 = record { txns = txn_2_1 ∷ []; calls = 8 }
 
+abbrev pub pass_1_1_1 : PassLog
+pass_1_1_1 = record { atr = 0; span = (span_of 5 7); end = pass_end.Ok ((attempt_number 1 1 1) ∷ []) }
+
+abbrev pub round_1_1 : RoundLog
+round_1_1 = record { span = (span_of 3 7); share = Some (record { index = 0; of = 1 }); passes = pass_1_1_1 ∷ [] }
+
 abbrev pub cleaner_1 : CleanerLog
-cleaner_1 = record { id = cleaner_number 1; rounds = record { span = (span_of 3 7); share = Some (record { index = 0; of = 1 }); passes = record { atr = 0; span = (span_of 5 7); end = pass_end.Ok ((attempt_number 1 1 1) ∷ []) } ∷ [] } ∷ []; stopped = false; calls = 4 }
+cleaner_1 = record { id = cleaner_number 1; rounds = round_1_1 ∷ []; stopped = false; calls = 4 }
 
 abbrev pub book : Book
 book = record { kept = record { opening = opening; history = history; marks = marks }; clients = client_1 ∷ client_2 ∷ []; cleaners = cleaner_1 ∷ [] }

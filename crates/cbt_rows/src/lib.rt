@@ -2,6 +2,7 @@
 //! nothing: what it ensures is the trial.
 #![tactic(auto)]
 
+mod called;
 #[cfg(test)]
 mod copies;
 mod misread;
@@ -10,6 +11,7 @@ mod unlawful;
 mod unlicensed;
 mod unplanned;
 
+pub use called::laws_where_cleaner_frees_pending_stage;
 pub use misread::{
     answers_that_are_right, document_that_changes_hands, hands_that_change,
     passes_that_do_not_follow, readings_without_second_read, rounds_that_do_not_follow, shares,

@@ -1,0 +1,32 @@
+//! The laws, called on a row: what they ask is met there.
+ghost use Rattle.std.specs.Prelude.{◌≡◌};
+ghost use Rattle.cbt_base.specs.Ids.{attempt_number};
+ghost use Rattle.cbt_core.specs.Laws.{IsFinishedAt, CommitsOnce, DocumentsCommitted, NoUpdateLost, AtMostOnce};
+ghost use Rattle.cbt_core.specs.Right.{AnswersRight};
+ghost use Rattle.cbt_rows.specs.CleanerFreesPendingStage;
+
+use cbt_book::Book;
+use cbt_core::{Case, fresh_openings, invariant, k1, k2, k3, k4, k5, k6, tables_count_commits};
+
+/// A cleaner drops the entry of a client that was stopped: each law holds of this run. From the end of
+/// the cleaner's pass on nothing is left of the attempt.
+pub fn laws_where_cleaner_frees_pending_stage(case: &Case, book: &Book)
+    requires this_case { case.now ≡ CleanerFreesPendingStage.run_case }
+    requires this_book { book.now ≡ CleanerFreesPendingStage.book }
+    ensures once { CommitsOnce CleanerFreesPendingStage.opening CleanerFreesPendingStage.history }
+    ensures documents { DocumentsCommitted CleanerFreesPendingStage.run_case CleanerFreesPendingStage.book }
+    ensures answers { AnswersRight CleanerFreesPendingStage.run_case CleanerFreesPendingStage.book }
+    ensures finished { IsFinishedAt CleanerFreesPendingStage.opening CleanerFreesPendingStage.history (attempt_number 1 1 1) 7 }
+    ensures none_lost { NoUpdateLost CleanerFreesPendingStage.run_case CleanerFreesPendingStage.book }
+    ensures at_most_once { AtMostOnce CleanerFreesPendingStage.book }
+{
+    fresh_openings();
+    tables_count_commits();
+    invariant(case, book);
+    k1(case, book);
+    k2(case, book);
+    k3(case, book);
+    k4(case, book);
+    k5(case, book);
+    k6(case, book);
+}
