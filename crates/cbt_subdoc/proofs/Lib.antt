@@ -14,3 +14,4 @@ pub mod Stops
 pub mod Leaves
 pub mod FirstBad
 pub mod Found
+pub mod Sorted
