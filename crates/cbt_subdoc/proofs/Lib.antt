@@ -15,3 +15,5 @@ pub mod Leaves
 pub mod FirstBad
 pub mod Found
 pub mod Sorted
+pub mod Grammar
+pub mod Accepted

@@ -26,11 +26,11 @@ doubled_by b name rest false is tail =
     let other : b ≢ 96 = λ e. (let clash : (b == 96) ≡ true = ap (λ c. c == 96) e in cc) in
     quoted-plain b (doubled name ++ 96 ∷ rest) other ∙ ap (prepended b) tail
 
-quoted-doubled : (name rest : List ℕ) → get_or rest 0 0 ≢ 96 → quoted (doubled name ++ 96 ∷ rest) ≡ Some (name, rest)
+pub quoted-doubled : (name rest : List ℕ) → get_or rest 0 0 ≢ 96 → quoted (doubled name ++ 96 ∷ rest) ≡ Some (name, rest)
 quoted-doubled [] rest other = quoted-end rest (λ _. other)
 quoted-doubled (b ∷ name) rest other = doubled_by b name rest (b == 96) refl (quoted-doubled name rest other)
 
-name_at-text : (name rest : List ℕ) → get_or rest 0 0 ≢ 96 → name_at (part_text (Name name) ++ rest) ≡ Ok (Name name, rest)
+pub name_at-text : (name rest : List ℕ) → get_or rest 0 0 ≢ 96 → name_at (part_text (Name name) ++ rest) ≡ Ok (Name name, rest)
 name_at-text name rest other =
     ap (λ l. quoted_name (quoted l)) (append_assoc (doubled name) (96 ∷ []) rest) ∙ ap quoted_name (quoted-doubled name rest other)
 
@@ -71,7 +71,7 @@ more_digit n ds many before below rest = (
 digits-end : (n : ℕ) (rest : List ℕ) → digits n (93 ∷ rest) ≡ Ok (Place n, rest)
 digits-end n rest = refl
 
-number_text : (n : ℕ) (rest : List ℕ) → n < 2 ^ 31 → place_at (decimal n ++ 93 ∷ rest) ≡ Ok (Place n, rest)
+pub number_text : (n : ℕ) (rest : List ℕ) → n < 2 ^ 31 → place_at (decimal n ++ 93 ∷ rest) ≡ Ok (Place n, rest)
 number_text zero rest below = (decimal_by_steps ReadsNumber one_digit more_digit 0 (omega arith) below (93 ∷ rest)).1 refl
 number_text (suc n) rest below = (decimal_by_steps ReadsNumber one_digit more_digit (suc n) (omega arith) below (93 ∷ rest)).0 (omega arith) ∙ digits-end (suc n) rest
 
@@ -80,7 +80,7 @@ place_at-text n rest below = ap place_at (append_assoc (decimal n) (93 ∷ []) r
 
 -- ---- paths
 
-first_at-text : (part : Part) (rest : List ℕ) → IsWritable part → get_or rest 0 0 ≢ 96 → first_at (part_text part ++ rest) ≡ Ok (part, rest)
+pub first_at-text : (part : Part) (rest : List ℕ) → IsWritable part → get_or rest 0 0 ≢ 96 → first_at (part_text part ++ rest) ≡ Ok (part, rest)
 first_at-text (Name name) rest writable other = name_at-text name rest other
 first_at-text (Place n) rest writable other = place_at-text n rest writable
 first_at-text Last rest writable other = refl
