@@ -8,7 +8,7 @@ use Rattle.cbt_subdoc.specs.declared.path.Part.TheVariants.{Name, Place, Last}
 use Rattle.cbt_subdoc.specs.Paths.{is_plain, plain_name, quoted, quoted_name, name_at, place_at, next_at, first_at, further, led_by, part_and, parts_of}
 use Rattle.cbt_subdoc.specs.Written.{IsNameText, IsPartText, led, IsTailText, IsTextOf}
 use Rattle.cbt_subdoc.proofs.Leaves.{plain_word}
-use Rattle.cbt_subdoc.proofs.ReadsBack.{name_at-text, first_at-text}
+use Rattle.cbt_subdoc.proofs.PartTexts.{name_at-text, first_at-text}
 
 -- a rest that does not go on with a name
 record EndsName (rest : List ℕ) : Type 0 where

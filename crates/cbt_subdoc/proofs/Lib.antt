@@ -9,7 +9,7 @@ pub mod Alike
 pub mod Slots
 pub mod Keeps
 pub mod Levels
-pub mod ReadsBack
+pub mod PartTexts
 pub mod Stops
 pub mod Leaves
 pub mod FirstBad

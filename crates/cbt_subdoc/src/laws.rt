@@ -1,5 +1,5 @@
 //! Laws of paths and of changes.
-ghost use Rattle.std.specs.Prelude.{◌≡◌, ◌↔◌, ℕ, ◌≤◌, List, length, IsTrue, Ok, Err};
+ghost use Rattle.std.specs.Prelude.{◌≡◌, ◌↔◌, ℕ, List, IsTrue, Ok, Err};
 ghost use Rattle.cbt_subdoc.specs.declared.path.Part.{Part};
 ghost use Rattle.cbt_subdoc.specs.declared.path.PathFault.TheVariants.{BadAt};
 ghost use Rattle.cbt_json.specs.declared.tree.Tree.{Tree};
@@ -11,14 +11,8 @@ ghost use Rattle.cbt_subdoc.specs.Members.{Members, IsKeyed};
 ghost use Rattle.cbt_subdoc.specs.Values.{value_of};
 ghost use Rattle.cbt_subdoc.specs.Along.{changed};
 ghost use Rattle.cbt_subdoc.specs.Reach.{reached};
-ghost use Rattle.cbt_subdoc.specs.PathLimits.{IsPath};
 ghost use Rattle.cbt_subdoc.specs.Paths.{parts_of, path_of};
-ghost use Rattle.cbt_subdoc.specs.Written.{path_text, AreWritable, IsFirstBad, IsTextOf};
-
-/// A law: the text of a path, with each name between backticks, is that path.
-pub fn path_reads_back()
-    ensures { (parts : List Part) → IsPath parts → AreWritable parts → length (path_text parts) ≤ 1024 → path_of (path_text parts) ≡ Ok parts }
-{}
+ghost use Rattle.cbt_subdoc.specs.Written.{IsFirstBad, IsTextOf};
 
 /// A law: a text is read as parts exactly where they may be written so; the limits of a path are
 /// tested besides.
