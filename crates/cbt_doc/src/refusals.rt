@@ -1,5 +1,5 @@
 //! The tests of a call, before anything is changed.
-ghost use Rattle.std.specs.Prelude.{◌≡◌, false, length};
+ghost use Rattle.std.specs.Prelude.{◌≡◌, false};
 ghost use Rattle.std.specs.Option.{option_copied};
 ghost use Rattle.cbt_doc.specs.Refusals.{expect_fault, presence_fault, order_fault, paths_fault, has_body, has_body_path};
 

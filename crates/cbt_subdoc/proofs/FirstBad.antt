@@ -7,6 +7,8 @@ use Rattle.cbt_subdoc.specs.declared.path.PathFault.TheVariants.{Empty, TooLong,
 use Rattle.cbt_subdoc.specs.PathLimits.{max_parts}
 use Rattle.cbt_subdoc.specs.Written.{GoesOn, IsFirstBad}
 use Rattle.cbt_subdoc.specs.Paths.{Front, stuck, next_at, first_at, further, led_by, part_and, parts_of, counted, path_of}
+use Rattle.cbt_subdoc.proofs.Accepted.{written-read}
+use Rattle.cbt_subdoc.proofs.Grammar.{read-written}
 use Rattle.cbt_subdoc.proofs.Shorter.{next-shorter, first-shorter}
 use Rattle.cbt_subdoc.proofs.Stops.{StopsAt, first-stops, next-stops}
 use Rattle.cbt_subdoc.proofs.Leaves.{Alike, Leaves, first-leaves, next-leaves}
@@ -166,7 +168,7 @@ after_by front (b ∷ more) some never on =
     let begun : take (suc (length front)) (front ++ b ∷ more) ≡ front ++ b ∷ [] = ap (λ k. take k (front ++ b ∷ more)) n ∙ take-append-add front (b ∷ more) 1 in
     let whole : (take (suc (length front)) (front ++ b ∷ more)) ++ on.0 ≡ front ++ b ∷ on.0 = ap (λ t. t ++ on.0) begun ∙ append_assoc front (b ∷ []) on.0 in
     let stops = never b more on.0 refl in
-    let goes = on.1.1 in
+    let goes = written-read _ on.1.0 on.1.1 in
     let same = ap parts_of whole in
     cc
 
@@ -180,7 +182,9 @@ first-bad text left e =
     subst (λ n. IsFirstBad text n) (sym at)
     (record {
       within = omega (arith, lens, length-append s.front s.tail);
-      before = subst GoesOn (sym (ap (take (length s.front)) cut ∙ take-append_seam s.front s.tail)) s.goes;
+      before =
+          subst GoesOn (sym (ap (take (length s.front)) cut ∙ take-append_seam s.front s.tail))
+          (s.goes.0, (s.goes.1.0, read-written (s.front ++ s.goes.0) s.goes.1.0 s.goes.1.1));
       after = λ more. subst (λ t. ¬ (GoesOn (take (suc (length s.front)) t))) (sym cut) (after_by s.front s.tail (omega (arith, more, lens, length-append s.front s.tail)) s.never);
     })
 

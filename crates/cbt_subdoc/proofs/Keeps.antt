@@ -141,13 +141,13 @@ rise_with name v [] rise = refl
 rise_with name v (m ∷ ms) rise =
     rise_with_by name v m ms (name_cmp name m.0) refl rise (rise_with name v ms (and_parts (rises_from m.0 (members_data ms)) (names_rise (members_data ms)) rise).1)
 
-less_is : (o : Ordering) → is_lt o ≡ true → o ≡ Less
+pub less_is : (o : Ordering) → is_lt o ≡ true → o ≡ Less
 less_is Less is = refl
 less_is Equal is = absurd (cc)
 less_is Greater is = absurd (cc)
 
 -- what follows a name that rises follows an earlier one
-further : (low next : List ℕ) (ms : Members) → is_lt (name_cmp low next) ≡ true → rises_from next (members_data ms) ≡ true → rises_from low (members_data ms) ≡ true
+pub further : (low next : List ℕ) (ms : Members) → is_lt (name_cmp low next) ≡ true → rises_from next (members_data ms) ≡ true → rises_from low (members_data ms) ≡ true
 further low next [] less first = refl
 further low next (m ∷ ms) less first =
     ap is_lt (nat_list_cmp_total.trans low next m.0 (less_is (name_cmp low next) less) (less_is (name_cmp next m.0) first))

@@ -90,10 +90,10 @@ pub record LeavesName (text name rest : List ℕ) : Type 0 where
   pub cut : text ≡ word ++ rest
   pub local : (r : List ℕ) → Alike rest r → quoted (word ++ r) ≡ Some (name, r)
 
-pair_of : (x y : List ℕ × List ℕ) → ◌≡◌ {A = Option (List ℕ × List ℕ)} (Some x) (Some y) → x ≡ y
+pub pair_of : (x y : List ℕ × List ℕ) → ◌≡◌ {A = Option (List ℕ × List ℕ)} (Some x) (Some y) → x ≡ y
 pair_of x y e = cc
 
-on_by : (b : ℕ) (o : Option (List ℕ × List ℕ)) (name rest : List ℕ) → prepended b o ≡ Some (name, rest) → (inner : List ℕ) × (o ≡ Some (inner, rest)) × (name ≡ b ∷ inner)
+pub on_by : (b : ℕ) (o : Option (List ℕ × List ℕ)) (name rest : List ℕ) → prepended b o ≡ Some (name, rest) → (inner : List ℕ) × (o ≡ Some (inner, rest)) × (name ≡ b ∷ inner)
 on_by b None name rest e = absurd (cc)
 on_by b (Some x) name rest e =
     let pair = pair_of (b ∷ x.0, x.1) (name, rest) e in
@@ -165,7 +165,7 @@ quoted_name_by text p rest (Some x) is e =
 -- ---- names of plain bytes
 
 -- the plain bytes at the front of a text
-record PlainFront (text : List ℕ) : Type 0 where
+pub record PlainFront (text : List ℕ) : Type 0 where
   pub word : List ℕ
   pub rest : List ℕ
   pub cut : text ≡ word ++ rest
@@ -184,7 +184,7 @@ front_by b text true is tail = record {
 }
 front_by b text false is tail = record { word = []; rest = b ∷ text; cut = refl; count = λ r like. no_plain b text r is like }
 
-plain-front : (text : List ℕ) → PlainFront text
+pub plain-front : (text : List ℕ) → PlainFront text
 plain-front [] = record { word = []; rest = []; cut = refl; count = none }
   where
     none : (r : List ℕ) → Alike [] r → prefix_len is_plain r ≡ 0
@@ -192,11 +192,11 @@ plain-front [] = record { word = []; rest = []; cut = refl; count = none }
     none (c ∷ r) like = absurd like
 plain-front (b ∷ text) = front_by b text (is_plain b) refl (plain-front text)
 
-alike_same : (rest : List ℕ) → Alike rest rest
+pub alike_same : (rest : List ℕ) → Alike rest rest
 alike_same [] = tt
 alike_same (b ∷ rest) = refl
 
-plain_word : (word r : List ℕ) → 0 < length word → plain_name (length word) (word ++ r) ≡ Ok (Name word, r)
+pub plain_word : (word r : List ℕ) → 0 < length word → plain_name (length word) (word ++ r) ≡ Ok (Name word, r)
 plain_word [] r some = absurd (omega arith)
 plain_word (b ∷ word) r some =
     let P : List ℕ → List ℕ → Front = λ x y. Ok (Name x, y) in

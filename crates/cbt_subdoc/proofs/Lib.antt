@@ -9,8 +9,11 @@ pub mod Alike
 pub mod Slots
 pub mod Keeps
 pub mod Levels
-pub mod ReadsBack
+pub mod PartTexts
 pub mod Stops
 pub mod Leaves
 pub mod FirstBad
 pub mod Found
+pub mod Sorted
+pub mod Grammar
+pub mod Accepted

@@ -6,9 +6,9 @@ use Rattle.cbt_subdoc.specs.declared.changes.MutOp.TheVariants.{Delete, Counter}
 use Rattle.cbt_subdoc.specs.declared.changes.MutValue.{MutValue}
 use Rattle.cbt_subdoc.specs.declared.changes.MutValue.TheVariants as value
 
-abbrev pub is_none : MutValue → Bool
-is_none value.None = true
-is_none _ = false
+abbrev pub is_absent : MutValue → Bool
+is_absent value.None = true
+is_absent _ = false
 
 abbrev pub is_delta : MutValue → Bool
 is_delta (value.Delta d) = true
@@ -21,7 +21,7 @@ is_value value.MacroCas = true
 is_value _ = false
 
 abbrev pub takes : MutOp → MutValue → Bool
-takes Delete v = is_none v
+takes Delete v = is_absent v
 takes Counter v = is_delta v
 takes _ v = is_value v
 

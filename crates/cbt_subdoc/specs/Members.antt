@@ -1,9 +1,9 @@
 -- The members of an object, whose names rise by bytes.
-use Rattle.std.specs.Prelude.{ℕ, suc, List, [], ◌∷◌, Option, Some, None, Result, Ok, Err}
+use Rattle.std.specs.Prelude.{◌≡◌, ℕ, suc, List, [], ◌∷◌, Option, Some, None, Result, Ok, Err}
 use Rattle.std.specs.declared.cmp.Ordering.{Ordering}
 use Rattle.std.specs.Ordering.{nat_cmp, match_ordering}
 use Rattle.std.specs.Cmp.Lexicographic.{slice_cmp}
-use Rattle.cbt_base.specs.Keyed.{with_pair}
+use Rattle.cbt_base.specs.Keyed.{at_key, with_pair, without_key}
 use Rattle.cbt_json.specs.declared.tree.Tree.{Tree}
 
 -- the order of names
@@ -36,3 +36,8 @@ further_on (Err at) = Err (suc at)
 abbrev pub seat : List ℕ → Members → Result ℕ ℕ
 seat name [] = Err 0
 seat name (m ∷ ms) = match_ordering (name_cmp name m.0) (Err 0) (Ok 0) (further_on (seat name ms))
+
+-- a name is found, and taken away, as a key of a map
+pub record IsKeyed (name : List ℕ) (ms : Members) : Type 0 where
+  pub value : member name ms ≡ at_key name_cmp ms name
+  pub left : without_member name ms ≡ without_key name_cmp ms name

@@ -1,7 +1,5 @@
 //! Changes at the end of a path.
 ghost use Rattle.std.specs.Prelude.{◌≡◌, ◌<◌, ◌≤◌, length, slice_get, slice_set, insert, remove, IfOk, MatchOption};
-ghost use Rattle.cbt_json.specs.declared.tree.Tree.{out-Tree};
-ghost use Rattle.cbt_json.specs.Rules.{IsJson};
 ghost use Rattle.cbt_subdoc.specs.Members.{member};
 ghost use Rattle.cbt_subdoc.specs.Edits.{Does};
 ghost use Rattle.cbt_subdoc.specs.Along.{in_object, item_changed, with_item_at, slot_changed, tree_changed, ends_in_place};

@@ -1,9 +1,8 @@
 //! The reading of a path's text, part by part.
-ghost use Rattle.std.specs.Prelude.{◌≡◌, ◌<◌, ◌≤◌, ◌==◌, ◌+◌, ◌-◌, ◌*◌, if◌then◌else◌, length, take, drop, slice_index, IfOk, Some, None};
+ghost use Rattle.std.specs.Prelude.{◌≡◌, ◌<◌, ◌≤◌, ◌==◌, ◌+◌, ◌-◌, ◌*◌, if◌then◌else◌, length, drop, slice_index, Some, None};
 ghost use Rattle.std.specs.List.{prefix_len};
-ghost use Rattle.std.specs.Str.{IsCharBoundary};
 ghost use Rattle.cbt_subdoc.specs.declared.parsing.Stop.TheVariants.{NoMemory as no_memory};
-ghost use Rattle.cbt_subdoc.specs.Paths.{is_plain, closed, digits, may_follow, last_place, place_at, quoted, name_at, plain_name, first_at, next_at, parts_of};
+ghost use Rattle.cbt_subdoc.specs.Paths.{is_plain, closed, digits, may_follow, last_place, place_at, quoted, name_at, first_at, next_at, parts_of};
 ghost use Rattle.cbt_subdoc.specs.Readings.{Reads, ReadsName};
 
 use crate::path::Part;

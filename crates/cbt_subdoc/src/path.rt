@@ -1,4 +1,4 @@
-ghost use Rattle.std.specs.Prelude.{◌≡◌, ◌⊎◌, ◌≤◌, length, IfSome, IfNone, Ok, Err};
+ghost use Rattle.std.specs.Prelude.{◌≡◌, ◌⊎◌, length, IfSome, IfNone, Ok, Err};
 ghost use Rattle.cbt_subdoc.specs.Paths.{path_of};
 ghost use Rattle.cbt_subdoc.specs.declared.path.PathFault.TheVariants.{NoMemory as no_memory};
 

@@ -1,5 +1,4 @@
 //! What a path reaches.
-ghost use Rattle.std.specs.Prelude.{◌≡◌, Some, None};
 ghost use Rattle.std.specs.Option.{option_copied};
 ghost use Rattle.cbt_json.specs.declared.tree.Tree.{out-Tree};
 ghost use Rattle.cbt_subdoc.specs.Reach.{Reaches, child, found, reached};

@@ -1,5 +1,5 @@
 //! The values that changes put into a document.
-ghost use Rattle.std.specs.Prelude.{◌≡◌, ◌++◌, IfOk};
+ghost use Rattle.std.specs.Prelude.{◌≡◌, IfOk};
 ghost use Rattle.cbt_json.specs.Rules.{IsJson};
 ghost use Rattle.cbt_subdoc.specs.Values.{macro_text, value_of};
 
