@@ -25,3 +25,4 @@ pub mod Passed
 pub mod Once
 pub mod Counting
 pub mod Updates
+pub mod Ended

@@ -88,7 +88,7 @@ last_at P U (m ∷ past) falls kept_so =
     })
     kept_so
 
-aborts_is : (st : Step) (a : ℕ) → aborts st ≡ Some a → (r : ℕ) × (lists : Lists) × (st ≡ step.Abort r a lists)
+pub aborts_is : (st : Step) (a : ℕ) → aborts st ≡ Some a → (r : ℕ) × (lists : Lists) × (st ≡ step.Abort r a lists)
 aborts_is (step.Abort r b lists) a is = (r, lists, ap (λ x. step.Abort r x lists) (some_same is))
 aborts_is (step.Commit r b lists) a is = absurd (none-some a is)
 aborts_is (step.DropEntry r b guarded) a is = absurd (none-some a is)

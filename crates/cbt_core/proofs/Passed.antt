@@ -92,26 +92,27 @@ pass_in_round plan l course at round pass follow there =
     (λ (early : Unshared plan l course round). absurd (in_no_passes pass round.passes early.passes there)) follow.goes
 
 module _ (s0 : State) (h : List Event) (lawful : Lawful s0 h) where
-  -- an attempt whose entry is gone is finished from then on
-  pub finished_from : (f p i r a : ℕ) (e : Entry) → f ≤ p → p ≤ i → entry_then s0 h lawful f (r, a) ≡ Some e → entry_then s0 h lawful p (r, a) ≡ None → IsFinishedAt s0 h a i
-  finished_from f p i r a e low high there gone = record {
-    no_entry = λ q. none_at i high q;
+  -- an attempt that has no entry any more is finished
+  pub finished_when : (i a : ℕ) → ((k : ℕ) → i ≤ k → (q : ℕ) → entry_then s0 h lawful k (q, a) ≡ None) → IsFinishedAt s0 h a i
+  finished_when i a none_at = record {
+    no_entry = λ q. none_at i (omega arith) q;
     unstaged = λ q lists d doc stage decided listed at staged. unstaged q lists d doc stage decided at staged;
   }
     where
-      none_at : (k : ℕ) → p ≤ k → (q : ℕ) → entry_then s0 h lawful k (q, a) ≡ None
-      none_at k up q = stays_gone s0 h lawful f p k q (r, a) e low up there gone
-
       decision : (q : ℕ) (lists : Lists) (it : DecidedAt s0 h q a lists) → AtDecision s0 h lawful q it.atr a
       decision q lists it = at_decision s0 h lawful q it.atr a it.event it.takes (⊎_elim (λ is. is_commit lists is) (λ is. is_abort lists is) it.is)
 
       unstaged : (q : ℕ) (lists : Lists) (d : List ℕ) (doc : DocState) (stage : Stage) → DecidedAt s0 h q a lists → doc_then s0 h lawful i d ≡ Some doc → doc.stage ≡ Some stage → stage.attempt ≢ a
       unstaged q lists d doc stage decided at staged =
-          ⊎_elim (λ (before : q < i). gone_finished s0 h lawful i q r a d lists doc stage before decided (λ t. none_at i high t) at staged)
-          (λ (later : i ≤ q). let it = decision q lists decided in absurd (none-some it.old (sym (none_at q (along high later) decided.atr) ∙ it.there))) (cases_lt q i)
-        where
-          along : {m n k : ℕ} → m ≤ n → n ≤ k → m ≤ k
-          along one two = omega arith
+          ⊎_elim (λ (before : q < i). gone_finished s0 h lawful i q decided.atr a d lists doc stage before decided (λ t. none_at i (omega arith) t) at staged)
+          (λ (later : i ≤ q). let it = decision q lists decided in absurd (none-some it.old (sym (none_at q later decided.atr) ∙ it.there))) (cases_lt q i)
+
+  -- and that is so from the moment on at which its entry is gone
+  pub finished_from : (f p i r a : ℕ) (e : Entry) → f ≤ p → p ≤ i → entry_then s0 h lawful f (r, a) ≡ Some e → entry_then s0 h lawful p (r, a) ≡ None → IsFinishedAt s0 h a i
+  finished_from f p i r a e low high there gone = finished_when i a (λ k up q. stays_gone s0 h lawful f p k q (r, a) e low (along high up) there gone)
+    where
+      along : {m n k : ℕ} → m ≤ n → n ≤ k → m ≤ k
+      along one two = omega arith
 
   -- a drop that was done leaves no entry
   pub dropped_done : (p r a : ℕ) (g : Bool) (e : Event) → TakesEffect s0 h p e → e.step ≡ step.DropEntry r a g → entry_then s0 h lawful (suc p) (r, a) ≡ None

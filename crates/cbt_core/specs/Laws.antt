@@ -12,11 +12,13 @@ use Rattle.cbt_model.specs.declared.states.State.{State}
 use Rattle.cbt_model.specs.declared.steps.Reply.TheVariants as reply
 use Rattle.cbt_book.specs.Licence.{IsListed}
 use Rattle.cbt_book.specs.OwnLists.{In}
+use Rattle.cbt_book.specs.Shown.{adds}
 use Rattle.cbt_book.specs.declared.book.Book.{Book}
 use Rattle.cbt_book.specs.declared.cleaners.CleanerLog.{CleanerLog}
 use Rattle.cbt_book.specs.declared.cleaners.PassEnd.TheVariants as pass_end
 use Rattle.cbt_book.specs.declared.cleaners.PassLog.{PassLog}
 use Rattle.cbt_book.specs.declared.cleaners.RoundLog.{RoundLog}
+use Rattle.cbt_book.specs.declared.clients.AttemptEnd.{AttemptEnd}
 use Rattle.cbt_book.specs.declared.clients.AttemptEnd.TheVariants as attempt_end
 use Rattle.cbt_book.specs.declared.clients.AttemptLog.{AttemptLog}
 use Rattle.cbt_book.specs.declared.clients.TxnEnd.{TxnEnd}
@@ -106,6 +108,18 @@ pub record IsFinishedAt (s0 : State) (h : List Event) (a i : ℕ) : Type 0 where
   pub no_entry : (r : ℕ) → entry_at (after s0 h i) (r, a) ≡ None
   pub unstaged : (q : ℕ) (lists : Lists) (d : List ℕ) (doc : DocState) (stage : Stage) → DecidedAt s0 h q a lists → IsListed d lists → doc_at (after s0 h i) d ≡ Some doc
       → doc.stage ≡ Some stage → stage.attempt ≢ a
+
+-- the ends of an attempt that tell that nothing is left of it
+abbrev pub leaves_nothing : AttemptEnd → Bool
+leaves_nothing (attempt_end.Committed place complete) = complete
+leaves_nothing attempt_end.RolledBack = true
+leaves_nothing (attempt_end.EntryLost place) = true
+leaves_nothing _ = false
+
+-- from its end on, nothing is left of an attempt that sent its entry and ended so
+abbrev pub AttemptsLeaveNothing : Book → Type 0
+AttemptsLeaveNothing book = (client txn try_no p i : ℕ) (log : AttemptLog) (e : Event) → attempt_at book.clients client txn try_no ≡ Some log → leaves_nothing log.end ≡ true
+    → slice_get book.kept.history p ≡ Some e → adds e.step ≡ Some log.id → log.span.to ≤ i → IsFinishedAt book.kept.opening book.kept.history log.id i
 
 -- a pass of a cleaner, or of the sweep
 pub record IsPass (book : Book) (pass : PassLog) : Type 0 where

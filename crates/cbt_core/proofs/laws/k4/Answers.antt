@@ -1,3 +1,4 @@
+use Rattle.cbt_core.proofs.Ended.{attempts_leave}
 use Rattle.cbt_core.proofs.FreshOpenings.{lawful_run}
 use Rattle.cbt_core.proofs.Passed.{passes_leave}
 use Rattle.cbt_core.proofs.laws.k4.Goals as goal
@@ -7,4 +8,7 @@ returns c = record {
   passes = λ pass covered a i is ok listed after_end.
       passes_leave c.args.case.now c.args.book.now c.requires.legal c.requires.follow
       (lawful_run c.args.case.now c.args.book.now c.requires.legal c.requires.licensed c.requires.sound c.requires.fresh) pass covered a i is ok listed after_end;
+  attempts = λ client txn try_no p i log e log_is tells at sends after_end.
+      attempts_leave c.args.case.now c.args.book.now c.requires.legal c.requires.follow
+      (lawful_run c.args.case.now c.args.book.now c.requires.legal c.requires.licensed c.requires.sound c.requires.fresh) client txn try_no p i log e log_is tells at sends after_end;
 }
