@@ -40,7 +40,7 @@ with_past : (P : Made → List Made → Type 0) (l : List Made) → Once P l →
 with_past P [] once = absurd once
 with_past P (x ∷ l) once = ⊎_elim (λ (here : P x l). (x, inl refl, (l, here))) (λ (before : Once P l). let it = with_past P l before in (it.0, inr it.1, it.2)) once
 
-kept_call : (P U : Made → List Made → Type 0) (l : List Made) → Kept P U l → (m : Made) × In m l × ((past : List Made) × P m past)
+pub kept_call : (P U : Made → List Made → Type 0) (l : List Made) → Kept P U l → (m : Made) × In m l × ((past : List Made) × P m past)
 kept_call P U [] kept = absurd kept
 kept_call P U (x ∷ l) kept =
     ⊎_elim (λ (here : P x l). (x, inl refl, (l, here))) (λ (before : (U x l → ⊥) × Kept P U l). let it = kept_call P U l before.1 in (it.0, inr it.1, it.2)) kept

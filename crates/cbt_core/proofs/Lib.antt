@@ -26,3 +26,4 @@ pub mod Once
 pub mod Counting
 pub mod Updates
 pub mod Ended
+pub mod Evicted

@@ -1,7 +1,7 @@
 -- What the laws say of runs.
 use Rattle.std.specs.Prelude.{◌≡◌, ◌≢◌, ℕ, ◌<◌, ◌≤◌, Bool, true, false, List, length, slice_get, Some, None}
 use Rattle.cbt_expr.specs.declared.plans.Op.{Op}
-use Rattle.cbt_model.specs.History.{after, made_at, commits, CommitsAt, RollsBackAt}
+use Rattle.cbt_model.specs.History.{after, made_at, commits, TakesEffect, CommitsAt, RollsBackAt}
 use Rattle.cbt_model.specs.Keys.{doc_at, entry_at}
 use Rattle.cbt_model.specs.View.{view}
 use Rattle.cbt_model.specs.declared.documents.DocState.{DocState}
@@ -10,7 +10,9 @@ use Rattle.cbt_model.specs.declared.entries.Lists.{Lists}
 use Rattle.cbt_model.specs.declared.events.Event.{Event}
 use Rattle.cbt_model.specs.declared.states.State.{State}
 use Rattle.cbt_model.specs.declared.steps.Reply.TheVariants as reply
+use Rattle.cbt_model.specs.declared.steps.Step.TheVariants as step
 use Rattle.cbt_book.specs.Licence.{IsListed}
+use Rattle.cbt_book.specs.Numbers.{client_of}
 use Rattle.cbt_book.specs.OwnLists.{In}
 use Rattle.cbt_book.specs.Shown.{adds}
 use Rattle.cbt_book.specs.declared.book.Book.{Book}
@@ -120,6 +122,21 @@ leaves_nothing _ = false
 abbrev pub AttemptsLeaveNothing : Book → Type 0
 AttemptsLeaveNothing book = (client txn try_no p i : ℕ) (log : AttemptLog) (e : Event) → attempt_at book.clients client txn try_no ≡ Some log → leaves_nothing log.end ≡ true
     → slice_get book.kept.history p ≡ Some e → adds e.step ≡ Some log.id → log.span.to ≤ i → IsFinishedAt book.kept.opening book.kept.history log.id i
+
+-- before this place another actor than its owner dropped the entry of attempt a while it was pending
+pub record IsEvictedBefore (s0 : State) (h : List Event) (a place : ℕ) : Type 0 where
+  pub drop : ℕ
+  pub event : Event
+  pub before : drop < place
+  pub takes : TakesEffect s0 h drop event
+  pub atr : ℕ
+  pub is : event.step ≡ step.DropEntry atr a true
+  pub other : event.actor ≢ client_of a
+
+-- an attempt whose commit found no entry was evicted
+abbrev pub LostByEviction : Book → Type 0
+LostByEviction book = (client txn try_no place : ℕ) (log : AttemptLog) → attempt_at book.clients client txn try_no ≡ Some log → log.end ≡ attempt_end.EntryLost place
+    → IsEvictedBefore book.kept.opening book.kept.history log.id place
 
 -- a pass of a cleaner, or of the sweep
 pub record IsPass (book : Book) (pass : PassLog) : Type 0 where

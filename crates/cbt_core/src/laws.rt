@@ -7,7 +7,7 @@ ghost use Rattle.cbt_model.specs.declared.events.Event.{Event};
 ghost use Rattle.cbt_model.specs.declared.states.State.{State};
 ghost use Rattle.cbt_core.specs.Committed.{table_at, table_of, commits_count};
 ghost use Rattle.cbt_core.specs.Invariant.{StampsRise, AddedOnce, DecidedOnce, HeldWhilePending, ListedWhenDecided, GoneWhenFinished, ShownStays};
-ghost use Rattle.cbt_core.specs.Laws.{NeverBoth, CommitsOnce, NoCommitDecided, DocumentsCommitted, NoUpdateLost, PassesLeaveNothing, AttemptsLeaveNothing, AtMostOnce};
+ghost use Rattle.cbt_core.specs.Laws.{NeverBoth, CommitsOnce, NoCommitDecided, DocumentsCommitted, NoUpdateLost, PassesLeaveNothing, AttemptsLeaveNothing, LostByEviction, AtMostOnce};
 ghost use Rattle.cbt_core.specs.Openings.{AreFresh, IsSound};
 ghost use Rattle.cbt_core.specs.Right.{AnswersRight, MomentsRise};
 ghost use Rattle.cbt_core.specs.Runs.{AreLicensed, IsFresh, IsLegalRun, LogsFollow};
@@ -93,7 +93,7 @@ pub fn k3(case: &Case, book: &Book)
 /// A pass that ended Ok leaves nothing: from its end on no attempt that it covered has an entry, and no
 /// document that a commit or an abort of such an attempt listed is staged by it. The same holds of an
 /// attempt that sent its entry, from its own end on, where it ended committed and complete, rolled back,
-/// or with its entry lost.
+/// or with its entry lost. Where an entry was lost another actor had dropped it under its guard.
 pub fn k4(case: &Case, book: &Book)
     requires legal { IsLegalRun case.now book.now }
     requires licensed { AreLicensed case.now book.now }
@@ -102,6 +102,7 @@ pub fn k4(case: &Case, book: &Book)
     requires follow { LogsFollow case.now book.now }
     ensures passes { PassesLeaveNothing book.now }
     ensures attempts { AttemptsLeaveNothing book.now }
+    ensures lost { LostByEviction book.now }
 {
     let _ = case;
     let _ = book;
