@@ -27,3 +27,4 @@ pub mod Counting
 pub mod Updates
 pub mod Ended
 pub mod Evicted
+pub mod Contended

@@ -1,8 +1,9 @@
 -- What the laws say of runs.
-use Rattle.std.specs.Prelude.{◌≡◌, ◌≢◌, ℕ, ◌<◌, ◌≤◌, Bool, true, false, List, length, slice_get, Some, None}
+use Rattle.std.specs.Prelude.{◌≡◌, ◌≢◌, ℕ, suc, ◌<◌, ◌≤◌, Bool, true, false, List, length, slice_get, Some, None}
 use Rattle.cbt_expr.specs.declared.plans.Op.{Op}
 use Rattle.cbt_model.specs.History.{after, made_at, commits, TakesEffect, CommitsAt, RollsBackAt}
 use Rattle.cbt_model.specs.Keys.{doc_at, entry_at}
+use Rattle.cbt_model.specs.Table.{touches_doc}
 use Rattle.cbt_model.specs.View.{view}
 use Rattle.cbt_model.specs.declared.documents.DocState.{DocState}
 use Rattle.cbt_model.specs.declared.documents.Stage.{Stage}
@@ -52,6 +53,17 @@ NoCommitDecided s0 h = (a i : ℕ) (e : Event) → slice_get h i ≡ Some e → 
 abbrev pub DocumentsCommitted : Case → Book → Type 0
 DocumentsCommitted case book = (i : ℕ) (d : List ℕ) → i ≤ length book.kept.history
     → view (after book.kept.opening book.kept.history i) d ≡ table_at (write_set case.plans book.clients) book.kept.opening book.kept.history i d
+
+-- from one place to another, other actors than this one changed document d so often
+pub data ChangedByOthers (s0 : State) (h : List Event) (actor : ℕ) (d : List ℕ) (from : ℕ) : ℕ → ℕ → Type 0 where
+  unchanged : (to : ℕ) → from ≤ to → ChangedByOthers s0 h actor d from 0 to
+  changed : (n k to : ℕ) (e : Event) → ChangedByOthers s0 h actor d from n k → k < to → TakesEffect s0 h k e → touches_doc e.step ≡ Some d → e.actor ≢ actor
+      → ChangedByOthers s0 h actor d from (suc n) to
+
+-- where an operation was answered Contended, other actors changed its document eight times in its span
+abbrev pub ContendedByOthers : Case → Book → Type 0
+ContendedByOthers case book = (client txn try_no n : ℕ) (o : Op) (log : OpLog) (so : Sofar) → IsAnswer case book client txn try_no n o log so → log.answer ≡ answer.Contended
+    → ChangedByOthers book.kept.opening book.kept.history client (doc_of o) log.span.from 8 log.span.to
 
 -- the attempt with this log staged document d over a reading at moment t, and never took that back
 pub record WroteOver (case : Case) (book : Book) (a : ℕ) (d : List ℕ) (t : ℕ) : Type 0 where

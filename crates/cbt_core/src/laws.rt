@@ -7,7 +7,7 @@ ghost use Rattle.cbt_model.specs.declared.events.Event.{Event};
 ghost use Rattle.cbt_model.specs.declared.states.State.{State};
 ghost use Rattle.cbt_core.specs.Committed.{table_at, table_of, commits_count};
 ghost use Rattle.cbt_core.specs.Invariant.{StampsRise, AddedOnce, DecidedOnce, HeldWhilePending, ListedWhenDecided, GoneWhenFinished, ShownStays};
-ghost use Rattle.cbt_core.specs.Laws.{NeverBoth, CommitsOnce, NoCommitDecided, DocumentsCommitted, NoUpdateLost, PassesLeaveNothing, AttemptsLeaveNothing, LostByEviction, AtMostOnce};
+ghost use Rattle.cbt_core.specs.Laws.{NeverBoth, CommitsOnce, NoCommitDecided, DocumentsCommitted, NoUpdateLost, ContendedByOthers, PassesLeaveNothing, AttemptsLeaveNothing, LostByEviction, AtMostOnce};
 ghost use Rattle.cbt_core.specs.Openings.{AreFresh, IsSound};
 ghost use Rattle.cbt_core.specs.Right.{AnswersRight, MomentsRise};
 ghost use Rattle.cbt_core.specs.Runs.{AreLicensed, IsFresh, IsLegalRun, LogsFollow};
@@ -76,7 +76,8 @@ pub fn k2(case: &Case, book: &Book)
 }
 
 /// Each answer about a document is right: it tells the attempt's own write, or else what the committed
-/// table has at one moment of the operation's span. A client's moments rise.
+/// table has at one moment of the operation's span. A client's moments rise. Where an operation was
+/// answered Contended, other actors changed its document eight times in its span.
 pub fn k3(case: &Case, book: &Book)
     requires legal { IsLegalRun case.now book.now }
     requires licensed { AreLicensed case.now book.now }
@@ -85,6 +86,7 @@ pub fn k3(case: &Case, book: &Book)
     requires follow { LogsFollow case.now book.now }
     ensures answers { AnswersRight case.now book.now }
     ensures moments { MomentsRise book.now }
+    ensures contended { ContendedByOthers case.now book.now }
 {
     let _ = case;
     let _ = book;
