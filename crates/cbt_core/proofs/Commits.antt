@@ -256,7 +256,7 @@ module _ (case : Case) (book : Book) (legal : IsLegalRun case book) (follow : Lo
         (effect_told s0 h k w takes2)
 
     -- a document with an own write is staged at the commit, with its content
-    own_staged : (d : List ℕ) (w : OwnWrite) → so.own d ≡ Some w → (doc : DocState) × (stage : Stage) × (doc_then s0 h lawful q d ≡ Some doc) × (doc.stage ≡ Some stage) × (stage.attempt ≡ a) × (stage.content ≡ w.content) × (stage.kind ≡ w.kind)
+    pub own_staged : (d : List ℕ) (w : OwnWrite) → so.own d ≡ Some w → (doc : DocState) × (stage : Stage) × (doc_then s0 h lawful q d ≡ Some doc) × (doc.stage ≡ Some stage) × (stage.attempt ≡ a) × (stage.content ≡ w.content) × (stage.kind ≡ w.kind)
     own_staged d w own_is =
         let it_is = held s0 h lawful q member.place r a (stamp s0 h lawful member.place member.event) d at.stages.stage decision.old decision.there decision.pending before stages (at.attempt ∙ it.id_is) no_more in
         (it_is.0, at.stages.stage, it_is.1, it_is.2, at.attempt ∙ it.id_is, at.content_is, at.kind_is)
@@ -299,7 +299,7 @@ module _ (case : Case) (book : Book) (legal : IsLegalRun case book) (follow : Lo
             (λ (late : ops_to ≤ k). late_none k f takes2.event by late (let high = here.high in omega arith) writes) (cases_lt k ops_to)
 
     -- a document without one is not staged by the attempt
-    not_own_unstaged : (d : List ℕ) (doc : DocState) (stage : Stage) → so.own d ≡ None → doc_then s0 h lawful q d ≡ Some doc → doc.stage ≡ Some stage → stage.attempt ≡ a → ⊥
+    pub not_own_unstaged : (d : List ℕ) (doc : DocState) (stage : Stage) → so.own d ≡ None → doc_then s0 h lawful q d ≡ Some doc → doc.stage ≡ Some stage → stage.attempt ≡ a → ⊥
     not_own_unstaged d doc stage free at staged own_one = go (staged_by s0 h lawful q d doc stage at staged)
       where
         go : StagedBy s0 h lawful d q doc stage → ⊥

@@ -28,3 +28,4 @@ pub mod Updates
 pub mod Ended
 pub mod Evicted
 pub mod Contended
+pub mod OwnWrites

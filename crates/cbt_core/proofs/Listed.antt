@@ -52,11 +52,11 @@ done_is (reply.Entries entries) is = absurd (cc)
 done_is (reply.Clients rows) is = absurd (cc)
 done_is reply.Failed is = absurd (cc)
 
-true_or_false : (b : Bool) → (b ≡ true) ⊎ (b ≡ false)
+pub true_or_false : (b : Bool) → (b ≡ true) ⊎ (b ≡ false)
 true_or_false true = inl refl
 true_or_false false = inr refl
 
-adds_by : (r a : ℕ) (m : Made) → AddsEntry r a m → adds m.step ≡ Some a
+pub adds_by : (r a : ℕ) (m : Made) → AddsEntry r a m → adds m.step ≡ Some a
 adds_by r a m (shown.added exp c is answer) = ap adds is
 adds_by r a m (shown.was_there exp is answer) = ap adds is
 

@@ -1,6 +1,6 @@
 -- The interleaving invariant: what is so after every prefix of a legal history of licensed actors.
 use Rattle.std.specs.Prelude.{◌≡◌, ◌≢◌, ℕ, ◌<◌, ◌≤◌, ◌⊎◌, ◌↔◌, List, Some, None}
-use Rattle.cbt_model.specs.History.{after, own, made_at, row_at_event, TakesEffect, commits, rolls_back}
+use Rattle.cbt_model.specs.History.{after, own, made_at, row_at_event, TakesEffect, CommitsAt, commits, rolls_back}
 use Rattle.cbt_model.specs.Keys.{doc_at, entry_at, row_at}
 use Rattle.cbt_model.specs.declared.documents.DocState.{DocState}
 use Rattle.cbt_model.specs.declared.documents.OpKind.{OpKind}
@@ -97,14 +97,18 @@ module _ (s0 : State) (h : List Event) where
     pub cas : (i j k : ℕ) (d : List ℕ) (x y z : DocState) → i ≤ j → j ≤ k → doc_at (after s0 h i) d ≡ Some x → doc_at (after s0 h j) d ≡ Some y
         → doc_at (after s0 h k) d ≡ Some z → y.cas ≢ x.cas → z.cas ≢ x.cas
 
--- where the logs follow their plans, a committed entry lists the attempt's own writes by kind, and what it staged are these
+-- document d is written by attempt a, as its log tells it, with this kind and content
+abbrev pub IsOwnWrite : Case → Book → ℕ → List ℕ → Stage → Type 0
+IsOwnWrite case book a d stage = (w : OwnWrite) × (own_writes_of case.plans book.clients a d ≡ Some w) × (w.kind ≡ stage.kind) × (w.content ≡ stage.content)
+
+-- where the logs follow their plans, the entry of an attempt that was committed by event q lists the attempt's own writes by kind,
+-- and what it has staged are these
 pub record CommitsOwnWrites (case : Case) (book : Book) : Type 0 where
-  pub listed_as : (i r a : ℕ) (e : Entry) (k : OpKind) (d : List ℕ) → entry_at (after book.kept.opening book.kept.history i) (r, a) ≡ Some e → e.state ≡ Committed
+  pub listed_as : (a q i r : ℕ) (e : Entry) (k : OpKind) (d : List ℕ) → CommitsAt book.kept.opening book.kept.history a q → q < i
+      → entry_at (after book.kept.opening book.kept.history i) (r, a) ≡ Some e
       → In d (listed k e.lists) ↔ ((w : OwnWrite) × (own_writes_of case.plans book.clients a d ≡ Some w) × (w.kind ≡ k))
-  pub staged_as : (i r a : ℕ) (e : Entry) (d : List ℕ) (doc : DocState) (stage : Stage)
-      → entry_at (after book.kept.opening book.kept.history i) (r, a) ≡ Some e → e.state ≡ Committed
-      → doc_at (after book.kept.opening book.kept.history i) d ≡ Some doc → doc.stage ≡ Some stage → stage.attempt ≡ a
-      → (w : OwnWrite) × (own_writes_of case.plans book.clients a d ≡ Some w) × (w.kind ≡ stage.kind) × (w.content ≡ stage.content)
+  pub staged_as : (a q i : ℕ) (d : List ℕ) (doc : DocState) (stage : Stage) → CommitsAt book.kept.opening book.kept.history a q → q < i
+      → doc_at (after book.kept.opening book.kept.history i) d ≡ Some doc → doc.stage ≡ Some stage → stage.attempt ≡ a → IsOwnWrite case book a d stage
 
 -- the invariant, as far as it speaks of the history alone
 pub record Interleaves (s0 : State) (h : List Event) : Type 0 where

@@ -6,7 +6,7 @@ ghost use Rattle.cbt_json.specs.declared.value.Json.{Json};
 ghost use Rattle.cbt_model.specs.declared.events.Event.{Event};
 ghost use Rattle.cbt_model.specs.declared.states.State.{State};
 ghost use Rattle.cbt_core.specs.Committed.{table_at, table_of, commits_count};
-ghost use Rattle.cbt_core.specs.Invariant.{StampsRise, AddedOnce, DecidedOnce, HeldWhilePending, ListedWhenDecided, GoneWhenFinished, ShownStays};
+ghost use Rattle.cbt_core.specs.Invariant.{StampsRise, AddedOnce, DecidedOnce, HeldWhilePending, ListedWhenDecided, GoneWhenFinished, ShownStays, CommitsOwnWrites};
 ghost use Rattle.cbt_core.specs.Laws.{NeverBoth, CommitsOnce, NoCommitDecided, DocumentsCommitted, NoUpdateLost, ContendedByOthers, PassesLeaveNothing, AttemptsLeaveNothing, LostByEviction, AtMostOnce};
 ghost use Rattle.cbt_core.specs.Openings.{AreFresh, IsSound};
 ghost use Rattle.cbt_core.specs.Right.{AnswersRight, MomentsRise};
@@ -62,7 +62,8 @@ pub fn tables_count_commits()
 {}
 
 /// At every place of the history each document resolves to what the committed table has for it: the
-/// opening's documents, and over them the write sets of the commits so far, as the logs tell them.
+/// opening's documents, and over them the write sets of the commits so far, as the logs tell them. The
+/// entry of a committed attempt lists its own writes by kind, and what it has staged are these.
 pub fn k2(case: &Case, book: &Book)
     requires legal { IsLegalRun case.now book.now }
     requires licensed { AreLicensed case.now book.now }
@@ -70,6 +71,7 @@ pub fn k2(case: &Case, book: &Book)
     requires fresh { AreFresh case.now.opening book.now.kept.history }
     requires follow { LogsFollow case.now book.now }
     ensures documents { DocumentsCommitted case.now book.now }
+    ensures own_writes { CommitsOwnWrites case.now book.now }
 {
     let _ = case;
     let _ = book;
