@@ -1,6 +1,7 @@
 -- What an answer tells of the state in which it was given.
 use Rattle.std.proofs.Common.{◌≡◌, ◌≢◌, ℕ, Bool, true, false, cond, nat_eq, List, [], ◌∷◌, Option, Some, None, ◌⊎◌, inl, inr, ⊎_elim, refl, sym, ap, ◌∙◌, subst, slice_get, arith}
 use Rattle.std.proofs.lemmas.Grind.{common_steps}
+use Rattle.std.proofs.lemmas.Option.{none-some}
 use Rattle.std.specs.List.{cons_option, AllByRecursion}
 use Rattle.std.specs.List.Sorted.{IsStrictlySortedBy}
 use Rattle.std.specs.Map.{keys_of}
@@ -11,7 +12,7 @@ use Rattle.cbt_json.specs.declared.value.Json.{Json}
 use Rattle.cbt_model.specs.History.{after, made_at, row_at_event, by_fate, is_done, TakesEffect}
 use Rattle.cbt_base.specs.Keyed.{at_key}
 use Rattle.cbt_model.specs.Keys.{IsOrdered, entry_cmp, doc_at, entry_at}
-use Rattle.cbt_model.specs.Table.{Row, row, read_doc_row, read_entry_row, add_entry_row, decide_row, drop_entry_row, publish_row, delete_row, unstick_row, is_pending, may_drop, refused, takes, entries_of, DropsEntry}
+use Rattle.cbt_model.specs.Table.{Row, row, read_doc_row, read_entry_row, add_entry_row, decide_row, drop_entry_row, stage_row, publish_row, delete_row, unstick_row, is_pending, may_drop, refused, takes, entries_of, DropsEntry}
 use Rattle.cbt_model.specs.declared.documents.DocState.{DocState}
 use Rattle.cbt_model.specs.declared.documents.Stage.{Stage}
 use Rattle.cbt_model.specs.declared.entries.Entry.{Entry}
@@ -22,6 +23,8 @@ use Rattle.cbt_model.specs.declared.events.Event.{Event}
 use Rattle.cbt_model.specs.declared.events.Fate.{Fate}
 use Rattle.cbt_model.specs.declared.events.Fate.TheVariants.{Plain, Lost, Late}
 use Rattle.cbt_model.specs.declared.states.State.{State}
+use Rattle.cbt_model.specs.declared.steps.Expect.{Expect}
+use Rattle.cbt_model.specs.declared.steps.Expect.TheVariants as expect
 use Rattle.cbt_model.specs.declared.steps.Reply.{Reply}
 use Rattle.cbt_model.specs.declared.steps.Reply.TheVariants as reply
 use Rattle.cbt_model.specs.declared.steps.Step.{Step}
@@ -30,7 +33,8 @@ use Rattle.cbt_model.proofs.Moves.{done_row}
 use Rattle.cbt_model.proofs.Ordered.{ordered-after}
 use Rattle.cbt_model.proofs.Orders.{entry_order, key_cases, key_itself}
 use Rattle.cbt_book.specs.OwnLists.{In}
-use Rattle.cbt_core.proofs.Past.{same_number}
+use Rattle.cbt_core.specs.OpAnswers.{is_refusal}
+use Rattle.cbt_core.proofs.Past.{same_number, some_same}
 
 -- a document as an answer shows it
 pub record DocShown (s : State) (d : List ℕ) (x : ℕ) (body : Option Json) (stage : Option Stage) : Type 0 where
@@ -130,6 +134,28 @@ delete_row_mismatch c d x have doc is = mismatch (nat_eq doc.cas x) _ doc.cas x 
 
 unstick_row_mismatch : (c : ℕ) (d : List ℕ) (x have : ℕ) (doc : DocState) → (unstick_row c d x (Some doc)).reply ≡ reply.CasMismatch have → doc.cas ≢ x
 unstick_row_mismatch c d x have doc is = mismatch (nat_eq doc.cas x) _ doc.cas x have refl is (λ q. cc)
+
+-- what a staging expects is met by this document, or by none
+abbrev pub Meets : Expect → Option DocState → Type 0
+Meets expect.New o = o ≡ None
+Meets (expect.Cas x) o = (doc : DocState) × (o ≡ Some doc) × (doc.cas ≡ x)
+
+refusal_differs : (b : Bool) (done other : Row) (m n : ℕ) → nat_eq m n ≡ b → is_refusal done.reply ≡ false → is_refusal (cond b done other).reply ≡ true → m ≢ n
+refusal_differs true done other m n at free refused = absurd (no_true (sym free ∙ refused))
+  where
+    no_true : false ≡ true → ⊥
+    no_true e = cc
+refusal_differs false done other m n at free refused = λ q. absurd (grind (arith, common_steps))
+
+stage_row_refused : (c : ℕ) (d : List ℕ) (ex : Expect) (stage : Stage) (o : Option DocState) → is_refusal (stage_row c d ex stage o).reply ≡ true → Meets ex o → ⊥
+stage_row_refused c d expect.New stage None is met = absurd (cc)
+stage_row_refused c d expect.New stage (Some x) is met = none-some x (sym met)
+stage_row_refused c d (expect.Cas x) stage None is met = none-some met.0 met.1
+stage_row_refused c d (expect.Cas x) stage (Some doc) is met = refusal_differs (nat_eq doc.cas x) _ _ doc.cas x refl refl is (ap (λ (z : DocState). z.cas) (some_same met.1) ∙ met.2)
+
+unstick_row_refused : (c : ℕ) (d : List ℕ) (x : ℕ) (o : Option DocState) → is_refusal (unstick_row c d x o).reply ≡ true → Meets (expect.Cas x) o → ⊥
+unstick_row_refused c d x None is met = none-some met.0 met.1
+unstick_row_refused c d x (Some doc) is met = refusal_differs (nat_eq doc.cas x) _ _ doc.cas x refl refl is (ap (λ (z : DocState). z.cas) (some_same met.1) ∙ met.2)
 
 -- an entry that is listed of a record stands in the map
 in_entries : (r a : ℕ) (e : Entry) (m : List ((ℕ × ℕ) × Entry)) → In (a, e) (entries_of r m) → In ((r, a), e) m
@@ -239,6 +265,14 @@ module _ (s : State) (c : ℕ) where
   unfolding row
   unstick_refused d x have doc at is = unstick_row_mismatch c d x have doc (ap (λ o. (unstick_row c d x o).reply) (sym at) ∙ is)
 
+  stage_refused : (d : List ℕ) (ex : Expect) (stage : Stage) → is_refusal (row s c (step.Stage d ex stage)).reply ≡ true → Meets ex (doc_at s d) → ⊥
+  unfolding row
+  stage_refused d ex stage is = stage_row_refused c d ex stage (doc_at s d) is
+
+  unstick_not_met : (d : List ℕ) (x : ℕ) → is_refusal (row s c (step.Unstick d x)).reply ≡ true → Meets (expect.Cas x) (doc_at s d) → ⊥
+  unfolding row
+  unstick_not_met d x is = unstick_row_refused c d x (doc_at s d) is
+
 -- the same of an event, by its step and its answer
 module _ (s0 : State) (h : List Event) (i : ℕ) (e : Event) where
   -- the clock's stamp for a change made by the event
@@ -304,6 +338,19 @@ module _ (s0 : State) (h : List Event) (i : ℕ) (e : Event) where
       → (made_at s0 h i e).answer.reply ≡ reply.CasMismatch have → doc.cas ≢ x
   unstick_refused_told d x have doc at is answer =
       unstick_refused (after s0 h i) stamp_at d x have doc at (told (step.Unstick d x) (reply.CasMismatch have) is answer (λ q. cc))
+
+  refusal_told : (st : Step) → e.step ≡ st → is_refusal (made_at s0 h i e).answer.reply ≡ true → is_refusal (row (after s0 h i) stamp_at st).reply ≡ true
+  refusal_told st is refused = ap is_refusal (told st (made_at s0 h i e).answer.reply is refl (λ failed. no_true (sym (ap is_refusal failed) ∙ refused))) ∙ refused
+    where
+      no_true : false ≡ true → ⊥
+      no_true q = cc
+
+  -- a staging or an unstick that was refused met another document
+  pub stage_refused_told : (d : List ℕ) (ex : Expect) (stage : Stage) → e.step ≡ step.Stage d ex stage → is_refusal (made_at s0 h i e).answer.reply ≡ true → Meets ex (doc_at (after s0 h i) d) → ⊥
+  stage_refused_told d ex stage is refused = stage_refused (after s0 h i) stamp_at d ex stage (refusal_told (step.Stage d ex stage) is refused)
+
+  pub unstick_not_met_told : (d : List ℕ) (x : ℕ) → e.step ≡ step.Unstick d x → is_refusal (made_at s0 h i e).answer.reply ≡ true → Meets (expect.Cas x) (doc_at (after s0 h i) d) → ⊥
+  unstick_not_met_told d x is refused = unstick_not_met (after s0 h i) stamp_at d x (refusal_told (step.Unstick d x) is refused)
 
   -- an answer Done tells that the step took effect, with this stamp
   pub done_told : (c : ℕ) → slice_get h i ≡ Some e → (made_at s0 h i e).answer.reply ≡ reply.Done c → TakesEffect s0 h i e × (c ≡ stamp_at)

@@ -55,8 +55,8 @@ reads_only d n x stage l m (again k x2 y old stage2 c asked older body read apar
     entry_read told = ⊎_elim (λ it. ap touches_doc it.1.0) (λ it. ap touches_doc it.0) told
 
 module _ (s0 : State) (h : List Event) (lawful : Lawful s0 h) where
-  -- between two places at which a document has different CAS, an event changed it
-  record ChangeBetween (d : List ℕ) (i j : ℕ) : Type 0 where
+  -- between two places at which a document differs, an event changed it
+  pub record ChangeBetween (d : List ℕ) (i j : ℕ) : Type 0 where
     pub place : ℕ
     pub event : Event
     pub from : i ≤ place
@@ -64,21 +64,20 @@ module _ (s0 : State) (h : List Event) (lawful : Lawful s0 h) where
     pub takes : TakesEffect s0 h place event
     pub touches : touches_doc event.step ≡ Some d
 
-  change_next : (d : List ℕ) (i j : ℕ) (x y : DocState) → i ≤ j → doc_then s0 h lawful (suc j) d ≡ Some y → x.cas ≢ y.cas → DocGoes s0 h lawful d j
-      → ((z : DocState) → doc_then s0 h lawful j d ≡ Some z → x.cas ≢ z.cas → ChangeBetween d i j) → ChangeBetween d i (suc j)
-  change_next d i j x y low there apart (stays same) ih =
-      let it = ih y (sym same ∙ there) apart in record { place = it.place; event = it.event; from = it.from; before = (let b = it.before in omega arith); takes = it.takes; touches = it.touches }
-  change_next d i j x y low there apart (is_staged_new e stage z takes is none now cas put body) ih = record { place = j; event = e; from = low; before = omega arith; takes = takes; touches = ap touches_doc is }
-  change_next d i j x y low there apart (is_staged e c stage old z takes is at over now cas put body) ih = record { place = j; event = e; from = low; before = omega arith; takes = takes; touches = ap touches_doc is }
-  change_next d i j x y low there apart (is_unstaged e c old z takes off at over now cas free) ih =
+  change_next : (d : List ℕ) (i j : ℕ) → i ≤ j → doc_then s0 h lawful i d ≢ doc_then s0 h lawful (suc j) d → DocGoes s0 h lawful d j
+      → (doc_then s0 h lawful i d ≢ doc_then s0 h lawful j d → ChangeBetween d i j) → ChangeBetween d i (suc j)
+  change_next d i j low apart (stays same) ih =
+      let it = ih (λ q. apart (q ∙ sym same)) in record { place = it.place; event = it.event; from = it.from; before = (let b = it.before in omega arith); takes = it.takes; touches = it.touches }
+  change_next d i j low apart (is_staged_new e stage z takes is none now cas put body) ih = record { place = j; event = e; from = low; before = omega arith; takes = takes; touches = ap touches_doc is }
+  change_next d i j low apart (is_staged e c stage old z takes is at over now cas put body) ih = record { place = j; event = e; from = low; before = omega arith; takes = takes; touches = ap touches_doc is }
+  change_next d i j low apart (is_unstaged e c old z takes off at over now cas free) ih =
       record { place = j; event = e; from = low; before = omega arith; takes = takes; touches = off_touches d c old.body z.body e.step off }
 
-  change_between : (d : List ℕ) (i j : ℕ) (x y : DocState) → i ≤ j → doc_then s0 h lawful i d ≡ Some x → doc_then s0 h lawful j d ≡ Some y → x.cas ≢ y.cas → ChangeBetween d i j
-  change_between d i zero x y low at there apart =
-      absurd (apart (ap (λ (z : DocState). z.cas) (some_same (sym (subst (λ k. doc_then s0 h lawful k d ≡ Some x) (none_below i low) at) ∙ there))))
-  change_between d i (suc j) x y low at there apart =
-      ⊎_elim (λ (l : i < suc j). change_next d i j x y (omega arith) there apart (doc_goes s0 h lawful j d) (λ z now other. change_between d i j x z (omega arith) at now other))
-      (λ (s : i ≡ suc j). absurd (apart (ap (λ (z : DocState). z.cas) (some_same (sym (subst (λ k. doc_then s0 h lawful k d ≡ Some x) s at) ∙ there))))) (below_next i (suc j) (omega arith))
+  pub change_between : (d : List ℕ) (i j : ℕ) → i ≤ j → doc_then s0 h lawful i d ≢ doc_then s0 h lawful j d → ChangeBetween d i j
+  change_between d i zero low apart = absurd (apart (ap (λ k. doc_then s0 h lawful k d) (none_below i low)))
+  change_between d i (suc j) low apart =
+      ⊎_elim (λ (l : i < suc j). change_next d i j (omega arith) apart (doc_goes s0 h lawful j d) (λ other. change_between d i j (omega arith) other))
+      (λ (s : i ≡ suc j). absurd (apart (ap (λ k. doc_then s0 h lawful k d) s))) (below_next i (suc j) (omega arith))
 
   module _ (actor : ℕ) (span : Span) (d : List ℕ) (reads : (m : Made) → In m (during span (own s0 h actor (length h))) → touches_doc m.step ≡ None) where
     abbrev calls : List Made
@@ -131,7 +130,8 @@ module _ (s0 : State) (h : List Event) (lawful : Lawful s0 h) where
         let it = shown_at m y body (Some stage2) (within m (inl refl)) read in
         let last = newest k x2 old older (λ c there. within c (inr (inr there))) falls.1.1 before in
         let lower = falls.0 last.call (inr last.there) in
-        let change = change_between d last.call.answer.place m.answer.place last.doc it.0 (omega arith) last.doc_is it.1 (λ same. apart (sym it.2 ∙ sym same ∙ last.cas)) in
+        let change = change_between d last.call.answer.place m.answer.place (omega arith)
+        (λ same. apart (sym it.2 ∙ ap (λ (z : DocState). z.cas) (some_same (sym it.1 ∙ sym same ∙ last.doc_is)) ∙ last.cas)) in
         let low = (during_in span last.call (own s0 h actor (length h)) (within last.call (inr (inr last.there)))).low in
         let high = (during_in span m (own s0 h actor (length h)) (within m (inl refl))).high in
         let from = change.from in let upto = change.before in

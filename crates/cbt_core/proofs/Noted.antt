@@ -85,6 +85,26 @@ told_at (answer.Staged place base) = Some place
 told_at (answer.Unstaged place) = Some place
 told_at _ = None
 
+-- what stands at the place of a write that was done
+stands_staged : (a : OpAnswer) (d : List ℕ) (m : Made) → (is_done m.answer.reply ≡ true → StandsAt m.answer.place a m.step) → (s : StagesDone d m) → (base : When) × (a ≡ answer.Staged m.answer.place base)
+stands_staged a d m stands s = subst (λ st. StandsAt m.answer.place a st) s.is (stands s.done)
+
+stands_unstuck : (a : OpAnswer) (d : List ℕ) (m : Made) → (is_done m.answer.reply ≡ true → StandsAt m.answer.place a m.step) → (u : UnsticksDone d m) → a ≡ answer.Unstaged m.answer.place
+stands_unstuck a d m stands u = subst (λ st. StandsAt m.answer.place a st) u.is (stands u.done)
+
+pub writes_told : (a : OpAnswer) (d : List ℕ) (m : Made) → (is_done m.answer.reply ≡ true → StandsAt m.answer.place a m.step) → WritesDone d m → told_at a ≡ Some m.answer.place
+writes_told a d m stands (inl s) = ap told_at (stands_staged a d m stands s).1
+writes_told a d m stands (inr u) = ap told_at (stands_unstuck a d m stands u)
+
+-- a write names its own document
+pub names_own : (t : AttemptTerms) (q d : List ℕ) (m : Made) → MayWrite t q m.step → WritesDone d m → d ≡ q
+names_own t q d m may (inl s) = (subst (λ st. MayWrite t q st) s.is may).0
+names_own t q d m may (inr u) = subst (λ st. MayWrite t q st) u.is may
+
+pub gets_nothing : (q d : List ℕ) (m : Made) → MayGet q m.step → WritesDone d m → ⊥
+gets_nothing q d m may (inl s) = subst (λ st. MayGet q st) s.is may
+gets_nothing q d m may (inr u) = subst (λ st. MayGet q st) u.is may
+
 module _ (t : AttemptTerms) (l : List Made) (from at : ℕ) (so : Sofar) (calls : List Made) (to : ℕ)
     (covers : (m : Made) → In m l → at ≤ m.answer.place → m.answer.place < to → In m calls)
     (inside : (m : Made) → In m calls → In m l × (at ≤ m.answer.place) × (m.answer.place < to))
@@ -187,26 +207,6 @@ module _ (t : AttemptTerms) (l : List Made) (from at : ℕ) (so : Sofar) (calls 
       by_free d m free there low below stages (inr key) =
           kept_free d m before (sym (same d ∙ ap (λ x. cond x None (so.own d)) key.0) ∙ free) there low below stages (λ n n_there writes. key.1 (only d n n_there writes).0)
 
-  -- what stands at the place of a write that was done
-  stands_staged : (a : OpAnswer) (d : List ℕ) (m : Made) → (is_done m.answer.reply ≡ true → StandsAt m.answer.place a m.step) → (s : StagesDone d m) → (base : When) × (a ≡ answer.Staged m.answer.place base)
-  stands_staged a d m stands s = subst (λ st. StandsAt m.answer.place a st) s.is (stands s.done)
-
-  stands_unstuck : (a : OpAnswer) (d : List ℕ) (m : Made) → (is_done m.answer.reply ≡ true → StandsAt m.answer.place a m.step) → (u : UnsticksDone d m) → a ≡ answer.Unstaged m.answer.place
-  stands_unstuck a d m stands u = subst (λ st. StandsAt m.answer.place a st) u.is (stands u.done)
-
-  writes_told : (a : OpAnswer) (d : List ℕ) (m : Made) → (is_done m.answer.reply ≡ true → StandsAt m.answer.place a m.step) → WritesDone d m → told_at a ≡ Some m.answer.place
-  writes_told a d m stands (inl s) = ap told_at (stands_staged a d m stands s).1
-  writes_told a d m stands (inr u) = ap told_at (stands_unstuck a d m stands u)
-
-  -- a write names its own document
-  names_own : (q d : List ℕ) (m : Made) → MayWrite t q m.step → WritesDone d m → d ≡ q
-  names_own q d m may (inl s) = (subst (λ st. MayWrite t q st) s.is may).0
-  names_own q d m may (inr u) = subst (λ st. MayWrite t q st) u.is may
-
-  gets_nothing : (q d : List ℕ) (m : Made) → MayGet q m.step → WritesDone d m → ⊥
-  gets_nothing q d m may (inl s) = subst (λ st. MayGet q st) s.is may
-  gets_nothing q d m may (inr u) = subst (λ st. MayGet q st) u.is may
-
   same_told : (p q : ℕ) → Some p ≡ Some q → q ≡ p
   same_told p q same = sym (some_same same)
 
@@ -229,14 +229,14 @@ module _ (t : AttemptTerms) (l : List Made) (from at : ℕ) (so : Sofar) (calls 
         let s = stages_by kind content q c.0 base c.2.0.1 c.2.1 in
         stages_one (noted_as (Writes q kind (Ok content)) span (answer.Staged place base) so) q (record { kind = kind_over kind (own_kind (so.own q)); content = content; place = place }) c.0 before (λ d. refl) c.1 s.0 c.2.0.0 s.1 s.2 s.3
         (λ d m there writes. (
-          names_own q d m (each_of (λ x. MayWrite t q x.step) calls m may.only there) writes,
+          names_own t q d m (each_of (λ x. MayWrite t q x.step) calls m may.only there) writes,
           same_told place m.answer.place (writes_told (answer.Staged place base) d m (each_of (λ x. is_done x.answer.reply ≡ true → StandsAt x.answer.place (answer.Staged place base) x.step) calls m stands there) writes) ∙ sym c.2.0.0,
         ))
     by_write q kind content span (answer.Unstaged place) told may stands =
         let c = some_call (λ m. DoneAt place m × TakesBack l so q kind m.step) calls told in
         unstages_one (noted_as (Writes q kind (Ok content)) span (answer.Unstaged place) so) q c.0 before (λ d. refl) c.1 (record { cas = c.2.1.cas; is = c.2.1.unsticks; done = c.2.0.1 })
         (λ d m there writes. (
-          names_own q d m (each_of (λ x. MayWrite t q x.step) calls m may.only there) writes,
+          names_own t q d m (each_of (λ x. MayWrite t q x.step) calls m may.only there) writes,
           λ s. not_staged place m.answer.place (stands_staged (answer.Unstaged place) d m (each_of (λ x. is_done x.answer.reply ≡ true → StandsAt x.answer.place (answer.Unstaged place) x.step) calls m stands there) s),
         ))
       where
