@@ -1,5 +1,5 @@
 -- The parts of a log by their numbers.
-use Rattle.std.proofs.Common.{◌≡◌, ℕ, zero, suc, ◌+◌, ◌-◌, ◌<◌, ◌≤◌, ⊎_elim, List, [], ◌∷◌, take, slice_get, option_and_then, Option, Some, None, refl, sym, ap, ◌∙◌, subst, arith}
+use Rattle.std.proofs.Common.{◌≡◌, ℕ, zero, suc, ◌+◌, ◌-◌, ◌<◌, ◌≤◌, true, ◌&&◌, ⊎_elim, List, [], ◌∷◌, take, slice_get, option_and_then, Option, Some, None, refl, sym, ap, ◌∙◌, subst, arith}
 use Rattle.std.proofs.lemmas.Bool.{cases_lt}
 use Rattle.std.proofs.lemmas.Option.{none-some}
 use Rattle.cbt_expr.specs.declared.plans.ClientPlan.{ClientPlan}
@@ -12,17 +12,17 @@ use Rattle.cbt_book.specs.declared.clients.AttemptLog.{AttemptLog}
 use Rattle.cbt_book.specs.declared.clients.ClientLog.{ClientLog}
 use Rattle.cbt_book.specs.declared.clients.TxnLog.{TxnLog}
 use Rattle.cbt_book.specs.declared.operations.OpLog.{OpLog}
-use Rattle.cbt_core.specs.Attempts.{AttemptFollows}
+use Rattle.cbt_core.specs.Attempts.{AttemptFollows, all_good}
 use Rattle.cbt_core.specs.Clients.{TxnsFollow}
 use Rattle.cbt_core.specs.Walk.{AttemptTerms, Sofar, noted, walked, nothing_yet}
-use Rattle.cbt_core.specs.Operations.{OpFollows, OpsFollow, ops_end}
+use Rattle.cbt_core.specs.Operations.{OpFollows, OpsFollow, GoesOn, is_good, ops_end}
 use Rattle.cbt_core.specs.Right.{IsAnswer}
 use Rattle.cbt_core.specs.Runs.{IsLegalRun, LogsFollow, own_of}
 use Rattle.cbt_core.specs.Transactions.{TxnTerms, attempt_terms, AttemptsFollow, TxnFollows, attempts_end}
 use Rattle.cbt_core.specs.WriteSets.{numbered, plan_at, txn_at, attempt_at}
 use Rattle.cbt_core.specs.declared.case.Case.{Case}
 use Rattle.cbt_core.proofs.Calls.{in_during, after_gap}
-use Rattle.cbt_core.proofs.Noted.{span_order}
+use Rattle.cbt_core.proofs.Noted.{span_order, ops_low}
 use Rattle.cbt_core.proofs.Past.{some_same}
 
 plus_none : (n : ℕ) → n ≡ n + 0
@@ -38,13 +38,12 @@ pub minus_one : (j : ℕ) → suc j - 1 ≡ j
 minus_one j = omega arith
 
 -- the operation with this number
-pub record OpAt (t : AttemptTerms) (l : List Made) (o : Op) (log : OpLog) (so : Sofar) : Type 0 where
-  pub at : ℕ
+pub record OpAt (t : AttemptTerms) (l : List Made) (at : ℕ) (o : Op) (log : OpLog) (so : Sofar) : Type 0 where
   pub number : ℕ
   pub follows : OpFollows t l at number so o log
 
 pub op_at : (t : AttemptTerms) (l : List Made) (at n : ℕ) (so : Sofar) (ops : List Op) (logs : List OpLog) (j : ℕ) (o : Op) (log : OpLog) → OpsFollow t l at n so ops logs → slice_get ops j ≡ Some o
-    → slice_get logs j ≡ Some log → OpAt t l o log (walked (take j ops) (take j logs) so)
+    → slice_get logs j ≡ Some log → OpAt t l (ops_end at (take j logs)) o log (walked (take j ops) (take j logs) so)
 op_at t l at n so ops [] j o log follow op_is log_is = absurd (none_there j)
   where
     none_there : (j : ℕ) → ⊥
@@ -56,8 +55,29 @@ op_at t l at n so [] (x ∷ logs) j o log follow op_is log_is = absurd follow
 op_at t l at n so (p ∷ ops) (x ∷ logs) zero o log follow op_is log_is =
     let op_same : p ≡ o = some_same op_is in
     let log_same : x ≡ log = some_same log_is in
-    record { at = at; number = n; follows = subst (λ q. OpFollows t l at n so q log) op_same (subst (λ y. OpFollows t l at n so p y) log_same follow.0) }
+    record { number = n; follows = subst (λ q. OpFollows t l at n so q log) op_same (subst (λ y. OpFollows t l at n so p y) log_same follow.0) }
 op_at t l at n so (p ∷ ops) (x ∷ logs) (suc j) o log follow op_is log_is = op_at t l x.span.to (suc n) (noted p x so) ops logs j o log follow.2 op_is log_is
+
+-- the operations before this one follow the plan too, and were answered well; it ends before the operations do
+pub ops_before : (t : AttemptTerms) (l : List Made) (at n : ℕ) (so : Sofar) (ops : List Op) (logs : List OpLog) (j : ℕ) (log : OpLog) → OpsFollow t l at n so ops logs → slice_get logs j ≡ Some log
+    → OpsFollow t l at n so (take j ops) (take j logs) × (all_good (take j logs) ≡ true) × (log.span.to ≤ ops_end at logs)
+ops_before t l at n so [] [] j log follow log_is = absurd (none-some log log_is)
+ops_before t l at n so (p ∷ ops) [] j log follow log_is = absurd (none-some log log_is)
+ops_before t l at n so [] (x ∷ logs) j log follow log_is = absurd follow
+ops_before t l at n so (p ∷ ops) (x ∷ logs) zero log follow log_is =
+    (tt, refl, subst (λ (y : OpLog). y.span.to ≤ ops_end x.span.to logs) (some_same log_is) (ops_low t l x.span.to (suc n) (noted p x so) ops logs follow.2))
+ops_before t l at n so (p ∷ ops) (x ∷ logs) (suc j) log follow log_is =
+    let rest = ops_before t l x.span.to (suc n) (noted p x so) ops logs j log follow.2 log_is in
+    let good = goes logs j log_is follow.1 in
+    ((follow.0, goes_on (take j logs) good, rest.0), ap (λ b. b && all_good (take j logs)) good ∙ rest.1, rest.2)
+  where
+    goes : (logs : List OpLog) (j : ℕ) → slice_get logs j ≡ Some log → GoesOn x logs → is_good x.answer ≡ true
+    goes [] j is on = absurd (none-some log is)
+    goes (y ∷ logs) j is on = on
+
+    goes_on : (logs : List OpLog) → is_good x.answer ≡ true → GoesOn x logs
+    goes_on [] good = tt
+    goes_on (y ∷ logs) good = good
 
 -- the operation of a call, with its number
 pub record OpIndex (t : AttemptTerms) (l : List Made) (so : Sofar) (ops : List Op) (logs : List OpLog) (m : Made) : Type 0 where
@@ -196,13 +216,26 @@ module _ (case : Case) (book : Book) (legal : IsLegalRun case book) (follow : Lo
       }
 
   -- the operation of an answer
-  pub record OpOf (client txn try_no : ℕ) (plan : TxnPlan) (o : Op) (log : OpLog) (so : Sofar) : Type 0 where
+  pub record OpOf (client txn try_no : ℕ) (plan : TxnPlan) (attempt : AttemptLog) (o : Op) (log : OpLog) (so : Sofar) : Type 0 where
     pub t : AttemptTerms
     pub at : ℕ
     pub number : ℕ
     pub follows : OpFollows t (own_of book client) at number so o log
+    -- those before it
+    pub from : ℕ
+    pub ops : List Op
+    pub logs : List OpLog
+    pub before : OpsFollow t (own_of book client) from 1 nothing_yet ops logs
+    pub good : all_good logs ≡ true
+    pub at_is : at ≡ ops_end from logs
+    pub so_is : so ≡ walked ops logs nothing_yet
+    -- and its attempt
+    pub start : ℕ
+    pub t_is : t ≡ attempt_terms (record { client = client; number = txn; plan = plan; atrs = case.atrs }) start try_no
+    pub attempt_follows : AttemptFollows t (own_of book client) from attempt
+    pub within : log.span.to ≤ attempt.span.to
 
-  pub op_of_run : (client txn try_no n : ℕ) (o : Op) (log : OpLog) (so : Sofar) (it : IsAnswer case book client txn try_no n o log so) → OpOf client txn try_no it.plan o log so
+  pub op_of_run : (client txn try_no n : ℕ) (o : Op) (log : OpLog) (so : Sofar) (it : IsAnswer case book client txn try_no n o log so) → OpOf client txn try_no it.plan it.attempt o log so
   op_of_run client txn try_no n o log so it =
       let c = found (numbered case.plans client) (λ (p : ClientPlan). numbered p.txns txn) it.plan it.plan_is in
       let try_is = try_of_run client txn try_no c.0 it.attempt it.plan c.1 it.plan_is it.attempt_is in
@@ -211,9 +244,22 @@ module _ (case : Case) (book : Book) (legal : IsLegalRun case book) (follow : Lo
       let t = attempt_terms (record { client = client; number = txn; plan = it.plan; atrs = case.atrs }) try_is.start try_no in
       let op = op_at t (own_of book client) try_is.at 1 nothing_yet it.plan.ops it.attempt.ops j.0 o log try_is.follows.ops j.2 log_is in
       let index : n - 1 ≡ j.0 = ap (λ k. k - 1) j.1 ∙ minus_one j.0 in
+      let so_is : so ≡ walked (take j.0 it.plan.ops) (take j.0 it.attempt.ops) nothing_yet = it.sofar_is ∙ ap (λ k. walked (take k it.plan.ops) (take k it.attempt.ops) nothing_yet) index in
+      let before = ops_before t (own_of book client) try_is.at 1 nothing_yet it.plan.ops it.attempt.ops j.0 log try_is.follows.ops log_is in
       record {
         t = t;
-        at = op.at;
+        at = ops_end try_is.at (take j.0 it.attempt.ops);
         number = op.number;
-        follows = subst (λ s. OpFollows t (own_of book client) op.at op.number s o log) (ap (λ k. walked (take k it.plan.ops) (take k it.attempt.ops) nothing_yet) (sym index) ∙ sym it.sofar_is) op.follows;
+        follows = subst (λ s. OpFollows t (own_of book client) (ops_end try_is.at (take j.0 it.attempt.ops)) op.number s o log) (sym so_is) op.follows;
+        from = try_is.at;
+        ops = take j.0 it.plan.ops;
+        logs = take j.0 it.attempt.ops;
+        before = before.0;
+        good = before.1;
+        at_is = refl;
+        so_is = so_is;
+        start = try_is.start;
+        t_is = refl;
+        attempt_follows = try_is.follows;
+        within = (let a = before.2 in let b = try_is.follows.held in omega arith);
       }

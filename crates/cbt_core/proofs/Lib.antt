@@ -29,3 +29,4 @@ pub mod Ended
 pub mod Evicted
 pub mod Contended
 pub mod OwnWrites
+pub mod Moved

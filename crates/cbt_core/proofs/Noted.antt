@@ -22,7 +22,7 @@ use Rattle.cbt_book.specs.declared.operations.OpLog.{OpLog}
 use Rattle.cbt_book.specs.declared.operations.Span.{Span}
 use Rattle.cbt_book.specs.declared.operations.When.{When}
 use Rattle.cbt_book.specs.declared.operations.When.TheVariants as when
-use Rattle.cbt_core.specs.Walk.{AttemptTerms, Sofar, OwnWrite, Request, Reads, Writes, request_of, noted, noted_as, walked, with_value, nothing_yet, kind_over, own_kind}
+use Rattle.cbt_core.specs.Walk.{AttemptTerms, Sofar, OwnWrite, LastRead, Request, Reads, Writes, request_of, noted, noted_as, walked, with_value, nothing_yet, kind_over, own_kind}
 use Rattle.cbt_core.specs.OpAnswers.{StagesOver, TakesBack, DoneAt, Answered}
 use Rattle.cbt_core.specs.OpCalls.{MayGet, MayWrite, OpCalls}
 use Rattle.cbt_core.specs.Operations.{StandsAt, OpFollows, OpsFollow, ops_end}
@@ -66,10 +66,18 @@ pub record TakenBack (l : List Made) (to : ℕ) (d : List ℕ) (m : Made) : Type
   pub high : call.answer.place < to
   pub unsticks : UnsticksDone d call
 
--- the own writes are the stagings of the calls between two places that were not taken back
+-- a reading after which the document was written no more
+pub record UnwrittenSince (l : List Made) (from to : ℕ) (d : List ℕ) (last : LastRead) : Type 0 where
+  pub low : from ≤ last.span.from
+  pub high : last.span.to ≤ to
+  pub unwritten : (m : Made) → In m l → last.span.from ≤ m.answer.place → m.answer.place < to → WritesDone d m → ⊥
+
+-- the own writes are the stagings of the calls between two places that were not taken back, and a document without one was not
+-- written since it was read
 pub record IsNoted (t : AttemptTerms) (l : List Made) (from to : ℕ) (so : Sofar) : Type 0 where
   pub staged : (d : List ℕ) (w : OwnWrite) → so.own d ≡ Some w → OwnWriteAt t l from to d w
   pub free : (d : List ℕ) (m : Made) → so.own d ≡ None → In m l → from ≤ m.answer.place → m.answer.place < to → StagesDone d m → TakenBack l to d m
+  pub read : (d : List ℕ) (last : LastRead) → so.own d ≡ None → so.read d ≡ Some last → UnwrittenSince l from to d last
 
 -- a span ends where it begins, or later
 pub span_order : (l : List Made) (at : ℕ) (span : Span) → IsSpan l at span → span.from ≤ span.to
@@ -134,20 +142,36 @@ module _ (t : AttemptTerms) (l : List Made) (from at : ℕ) (so : Sofar) (calls 
       ⊎_elim (λ (early : m.answer.place < at). kept_back d m (before.free d m free there low early stages))
       (λ (late : at ≤ m.answer.place). absurd (none m (covers m there late below) (inl stages))) (cases_lt m.answer.place at)
 
-  -- an operation that wrote nothing
-  quiet : (next : Sofar) → IsNoted t l from at so → ((d : List ℕ) → next.own d ≡ so.own d) → ((d : List ℕ) (m : Made) → In m calls → WritesDone d m → ⊥) → IsNoted t l from to next
-  quiet next before same none = record {
-    staged = λ d w is. kept_staged d w (before.staged d w (sym (same d) ∙ is)) (none d);
-    free = λ d m free there low below stages. kept_free d m before (sym (same d) ∙ free) there low below stages (none d);
+  kept_read : (d : List ℕ) (last : LastRead) → UnwrittenSince l from at d last → ((m : Made) → In m calls → WritesDone d m → ⊥) → UnwrittenSince l from to d last
+  kept_read d last it none = record {
+    low = it.low;
+    high = (let a = it.high in omega arith);
+    unwritten = λ m there after below writes.
+        ⊎_elim (λ (early : m.answer.place < at). it.unwritten m there after early writes) (λ (late : at ≤ m.answer.place). none m (covers m there late below) writes) (cases_lt m.answer.place at);
   }
 
+  -- an operation that wrote nothing
+  quiet : (next : Sofar) → IsNoted t l from at so → ((d : List ℕ) → next.own d ≡ so.own d) → ((d : List ℕ) (m : Made) → In m calls → WritesDone d m → ⊥)
+      → ((d : List ℕ) (last : LastRead) → next.own d ≡ None → next.read d ≡ Some last → UnwrittenSince l from to d last) → IsNoted t l from to next
+  quiet next before same none read = record {
+    staged = λ d w is. kept_staged d w (before.staged d w (sym (same d) ∙ is)) (none d);
+    free = λ d m free there low below stages. kept_free d m before (sym (same d) ∙ free) there low below stages (none d);
+    read = read;
+  }
+
+  -- and told nothing
+  silent : IsNoted t l from at so → ((d : List ℕ) (m : Made) → In m calls → WritesDone d m → ⊥) → IsNoted t l from to so
+  silent before none = quiet so before (λ d. refl) none (λ d last free is. kept_read d last (before.read d last free is) (none d))
+
   -- an operation that staged document q, and nothing else
-  stages_one : (next : Sofar) (q : List ℕ) (w : OwnWrite) (c : Made) → IsNoted t l from at so → ((d : List ℕ) → next.own d ≡ with_value q (Some w) so.own d) → In c calls → (s : StagesDone q c)
+  stages_one : (next : Sofar) (q : List ℕ) (w : OwnWrite) (c : Made) → IsNoted t l from at so → ((d : List ℕ) → next.own d ≡ with_value q (Some w) so.own d)
+      → ((d : List ℕ) → next.read d ≡ so.read d) → In c calls → (s : StagesDone q c)
       → c.answer.place ≡ w.place → s.stage.attempt ≡ t.id → s.stage.kind ≡ w.kind → s.stage.content ≡ w.content
       → ((d : List ℕ) (m : Made) → In m calls → WritesDone d m → (d ≡ q) × (m.answer.place ≡ c.answer.place)) → IsNoted t l from to next
-  stages_one next q w c before same in_calls s place attempt kind content only = record {
+  stages_one next q w c before same same_read in_calls s place attempt kind content only = record {
     staged = λ d v is. by_key d v is (key_cases doc_order d q);
     free = λ d m free there low below stages. by_free d m free there low below stages (key_cases doc_order d q);
+    read = λ d last free is. by_read d last free is (key_cases doc_order d q);
   }
     where
       at_c : In c l × (at ≤ c.answer.place) × (c.answer.place < to)
@@ -183,12 +207,19 @@ module _ (t : AttemptTerms) (l : List Made) (from at : ℕ) (so : Sofar) (calls 
       by_free d m free there low below stages (inr key) =
           kept_free d m before (sym (same d ∙ ap (λ x. cond x (Some w) (so.own d)) key.0) ∙ free) there low below stages (λ n n_there writes. key.1 (only d n n_there writes).0)
 
+      by_read : (d : List ℕ) (last : LastRead) → next.own d ≡ None → next.read d ≡ Some last → ((is_eq (doc_cmp d q) ≡ true) × (d ≡ q)) ⊎ ((is_eq (doc_cmp d q) ≡ false) × (d ≢ q)) → UnwrittenSince l from to d last
+      by_read d last free is (inl key) = absurd (none-some w (sym free ∙ same d ∙ ap (λ x. cond x (Some w) (so.own d)) key.0))
+      by_read d last free is (inr key) =
+          kept_read d last (before.read d last (sym (same d ∙ ap (λ x. cond x (Some w) (so.own d)) key.0) ∙ free) (sym (same_read d) ∙ is)) (λ m there writes. key.1 (only d m there writes).0)
+
   -- an operation that took its staging of document q back, and wrote nothing else
-  unstages_one : (next : Sofar) (q : List ℕ) (c : Made) → IsNoted t l from at so → ((d : List ℕ) → next.own d ≡ with_value q None so.own d) → In c calls → UnsticksDone q c
+  unstages_one : (next : Sofar) (q : List ℕ) (c : Made) → IsNoted t l from at so → ((d : List ℕ) → next.own d ≡ with_value q None so.own d)
+      → ((d : List ℕ) → next.read d ≡ with_value q None so.read d) → In c calls → UnsticksDone q c
       → ((d : List ℕ) (m : Made) → In m calls → WritesDone d m → (d ≡ q) × (StagesDone d m → ⊥)) → IsNoted t l from to next
-  unstages_one next q c before same in_calls u only = record {
+  unstages_one next q c before same same_read in_calls u only = record {
     staged = λ d v is. by_key d v is (key_cases doc_order d q);
     free = λ d m free there low below stages. by_free d m free there low below stages (key_cases doc_order d q);
+    read = λ d last free is. by_read d last free is (key_cases doc_order d q);
   }
     where
       at_c : In c l × (at ≤ c.answer.place) × (c.answer.place < to)
@@ -206,6 +237,13 @@ module _ (t : AttemptTerms) (l : List Made) (from at : ℕ) (so : Sofar) (calls 
           (λ (late : at ≤ m.answer.place). absurd ((only d m (covers m there late below) (inl stages)).1 stages)) (cases_lt m.answer.place at)
       by_free d m free there low below stages (inr key) =
           kept_free d m before (sym (same d ∙ ap (λ x. cond x None (so.own d)) key.0) ∙ free) there low below stages (λ n n_there writes. key.1 (only d n n_there writes).0)
+
+      by_read : (d : List ℕ) (last : LastRead) → next.own d ≡ None → next.read d ≡ Some last → ((is_eq (doc_cmp d q) ≡ true) × (d ≡ q)) ⊎ ((is_eq (doc_cmp d q) ≡ false) × (d ≢ q)) → UnwrittenSince l from to d last
+      by_read d last free is (inl key) = absurd (none-some last (sym (same_read d ∙ ap (λ x. cond x None (so.read d)) key.0) ∙ is))
+      by_read d last free is (inr key) =
+          kept_read d last
+          (before.read d last (sym (same d ∙ ap (λ x. cond x None (so.own d)) key.0) ∙ free) (sym (same_read d ∙ ap (λ x. cond x None (so.read d)) key.0) ∙ is))
+          (λ m there writes. key.1 (only d m there writes).0)
 
   same_told : (p q : ℕ) → Some p ≡ Some q → q ≡ p
   same_told p q same = sym (some_same same)
@@ -227,14 +265,14 @@ module _ (t : AttemptTerms) (l : List Made) (from at : ℕ) (so : Sofar) (calls 
     by_write q kind content span (answer.Staged place base) told may stands =
         let c = some_call (λ m. DoneAt place m × StagesOver t l so q kind content calls base m.step) calls told in
         let s = stages_by kind content q c.0 base c.2.0.1 c.2.1 in
-        stages_one (noted_as (Writes q kind (Ok content)) span (answer.Staged place base) so) q (record { kind = kind_over kind (own_kind (so.own q)); content = content; place = place }) c.0 before (λ d. refl) c.1 s.0 c.2.0.0 s.1 s.2 s.3
+        stages_one (noted_as (Writes q kind (Ok content)) span (answer.Staged place base) so) q (record { kind = kind_over kind (own_kind (so.own q)); content = content; place = place }) c.0 before (λ d. refl) (λ d. refl) c.1 s.0 c.2.0.0 s.1 s.2 s.3
         (λ d m there writes. (
           names_own t q d m (each_of (λ x. MayWrite t q x.step) calls m may.only there) writes,
           same_told place m.answer.place (writes_told (answer.Staged place base) d m (each_of (λ x. is_done x.answer.reply ≡ true → StandsAt x.answer.place (answer.Staged place base) x.step) calls m stands there) writes) ∙ sym c.2.0.0,
         ))
     by_write q kind content span (answer.Unstaged place) told may stands =
         let c = some_call (λ m. DoneAt place m × TakesBack l so q kind m.step) calls told in
-        unstages_one (noted_as (Writes q kind (Ok content)) span (answer.Unstaged place) so) q c.0 before (λ d. refl) c.1 (record { cas = c.2.1.cas; is = c.2.1.unsticks; done = c.2.0.1 })
+        unstages_one (noted_as (Writes q kind (Ok content)) span (answer.Unstaged place) so) q c.0 before (λ d. refl) (λ d. refl) c.1 (record { cas = c.2.1.cas; is = c.2.1.unsticks; done = c.2.0.1 })
         (λ d m there writes. (
           names_own t q d m (each_of (λ x. MayWrite t q x.step) calls m may.only there) writes,
           λ s. not_staged place m.answer.place (stands_staged (answer.Unstaged place) d m (each_of (λ x. is_done x.answer.reply ≡ true → StandsAt x.answer.place (answer.Unstaged place) x.step) calls m stands there) s),
@@ -245,12 +283,12 @@ module _ (t : AttemptTerms) (l : List Made) (from at : ℕ) (so : Sofar) (calls 
           where
             differ : (place other : ℕ) (base : When) → answer.Unstaged place ≡ answer.Staged other base → ⊥
             differ place other base same = cc
-    by_write q kind content span (answer.DocExists w) told may stands = quiet so before (λ d. refl) (λ d m there writes. no_told (answer.DocExists w) d m stands there writes refl)
-    by_write q kind content span (answer.DocNotFound w) told may stands = quiet so before (λ d. refl) (λ d m there writes. no_told (answer.DocNotFound w) d m stands there writes refl)
-    by_write q kind content span (answer.Blocked by) told may stands = quiet so before (λ d. refl) (λ d m there writes. no_told (answer.Blocked by) d m stands there writes refl)
-    by_write q kind content span answer.Moved told may stands = quiet so before (λ d. refl) (λ d m there writes. no_told answer.Moved d m stands there writes refl)
-    by_write q kind content span answer.Contended told may stands = quiet so before (λ d. refl) (λ d m there writes. no_told answer.Contended d m stands there writes refl)
-    by_write q kind content span (answer.CallFailed place) told may stands = quiet so before (λ d. refl) (λ d m there writes. no_told (answer.CallFailed place) d m stands there writes refl)
+    by_write q kind content span (answer.DocExists w) told may stands = silent before (λ d m there writes. no_told (answer.DocExists w) d m stands there writes refl)
+    by_write q kind content span (answer.DocNotFound w) told may stands = silent before (λ d m there writes. no_told (answer.DocNotFound w) d m stands there writes refl)
+    by_write q kind content span (answer.Blocked by) told may stands = silent before (λ d m there writes. no_told (answer.Blocked by) d m stands there writes refl)
+    by_write q kind content span answer.Moved told may stands = silent before (λ d m there writes. no_told answer.Moved d m stands there writes refl)
+    by_write q kind content span answer.Contended told may stands = silent before (λ d m there writes. no_told answer.Contended d m stands there writes refl)
+    by_write q kind content span (answer.CallFailed place) told may stands = silent before (λ d m there writes. no_told (answer.CallFailed place) d m stands there writes refl)
     by_write q kind content span (answer.Value value w) told may stands = absurd told
     by_write q kind content span answer.Holds told may stands = absurd told
     by_write q kind content span answer.NeedFalse told may stands = absurd told
@@ -285,12 +323,44 @@ module _ (t : AttemptTerms) (l : List Made) (from at : ℕ) (so : Sofar) (calls 
     no_calls q kind part answer.Holds told = absurd told
     no_calls q kind part answer.NeedFalse told = absurd told
 
-    by_request : (r : Request) (span : Span) (a : OpAnswer) → Answered t l so r calls a → OpCalls t r calls → Each (λ m _. is_done m.answer.reply ≡ true → StandsAt m.answer.place a m.step) calls
+    gets_none : (d name : List ℕ) (q : List ℕ) (m : Made) → OpCalls t (Reads d name) calls → In m calls → WritesDone q m → ⊥
+    gets_none d name q m may there writes = gets_nothing d q m (each_of (λ x. MayGet d x.step) calls m may.only there) writes
+
+    -- a value that was read is one of a document that the get does not write
+    read_now : (d name : List ℕ) (span : Span) (a : OpAnswer) → at ≤ span.from → span.to ≤ to → OpCalls t (Reads d name) calls → (q : List ℕ) (last : LastRead)
+        → (noted_as (Reads d name) span a so).own q ≡ None → (noted_as (Reads d name) span a so).read q ≡ Some last → UnwrittenSince l from to q last
+    read_now d name span (answer.Value value (when.At moment)) low high may q last free is = by_key (key_cases doc_order q d)
+      where
+        now : LastRead
+        now = record { span = span; value = value; moment = moment }
+
+        since : UnwrittenSince l from to q now
+        since = record { low = omega arith; high = high; unwritten = λ m there after below writes. gets_none d name q m may (covers m there (omega arith) below) writes }
+
+        by_key : ((is_eq (doc_cmp q d) ≡ true) × (q ≡ d)) ⊎ ((is_eq (doc_cmp q d) ≡ false) × (q ≢ d)) → UnwrittenSince l from to q last
+        by_key (inl key) = subst (λ x. UnwrittenSince l from to q x) (some_same (sym (ap (λ x. cond x (Some now) (so.read q)) key.0) ∙ is)) since
+        by_key (inr key) =
+            kept_read q last (before.read q last free (sym (ap (λ x. cond x (Some now) (so.read q)) key.0) ∙ is)) (λ m there writes. gets_none d name q m may there writes)
+    read_now d name span (answer.Value value when.Own) low high may q last free is = kept_read q last (before.read q last free is) (λ m there writes. gets_none d name q m may there writes)
+    read_now d name span (answer.Staged place base) low high may q last free is = kept_read q last (before.read q last free is) (λ m there writes. gets_none d name q m may there writes)
+    read_now d name span (answer.Unstaged place) low high may q last free is = kept_read q last (before.read q last free is) (λ m there writes. gets_none d name q m may there writes)
+    read_now d name span (answer.DocExists w) low high may q last free is = kept_read q last (before.read q last free is) (λ m there writes. gets_none d name q m may there writes)
+    read_now d name span (answer.DocNotFound w) low high may q last free is = kept_read q last (before.read q last free is) (λ m there writes. gets_none d name q m may there writes)
+    read_now d name span (answer.Blocked by) low high may q last free is = kept_read q last (before.read q last free is) (λ m there writes. gets_none d name q m may there writes)
+    read_now d name span answer.Moved low high may q last free is = kept_read q last (before.read q last free is) (λ m there writes. gets_none d name q m may there writes)
+    read_now d name span answer.Contended low high may q last free is = kept_read q last (before.read q last free is) (λ m there writes. gets_none d name q m may there writes)
+    read_now d name span (answer.CallFailed place) low high may q last free is = kept_read q last (before.read q last free is) (λ m there writes. gets_none d name q m may there writes)
+    read_now d name span answer.Holds low high may q last free is = kept_read q last (before.read q last free is) (λ m there writes. gets_none d name q m may there writes)
+    read_now d name span answer.NeedFalse low high may q last free is = kept_read q last (before.read q last free is) (λ m there writes. gets_none d name q m may there writes)
+    read_now d name span (answer.BadValue part) low high may q last free is = kept_read q last (before.read q last free is) (λ m there writes. gets_none d name q m may there writes)
+
+    by_request : (r : Request) (span : Span) (a : OpAnswer) → at ≤ span.from → span.to ≤ to → Answered t l so r calls a → OpCalls t r calls → Each (λ m _. is_done m.answer.reply ≡ true → StandsAt m.answer.place a m.step) calls
         → IsNoted t l from to (noted_as r span a so)
-    by_request (Reads d name) span a told may stands =
-        quiet (noted_as (Reads d name) span a so) before (λ q. own_stays d name span a q) (λ q m there writes. gets_nothing d q m (each_of (λ x. MayGet d x.step) calls m may.only there) writes)
-    by_request (Writes q kind (Ok content)) span a told may stands = by_write q kind content span a told may stands
-    by_request (Writes q kind (Err part)) span a told may stands = quiet so before (λ d. refl) (λ d m there writes. absurd (subst (λ c. In m c) (no_calls q kind part a told) there))
+    by_request (Reads d name) span a low high told may stands =
+        quiet (noted_as (Reads d name) span a so) before (λ q. own_stays d name span a q) (λ q m there writes. gets_none d name q m may there writes)
+        (λ q last free is. read_now d name span a low high may q last free is)
+    by_request (Writes q kind (Ok content)) span a low high told may stands = by_write q kind content span a told may stands
+    by_request (Writes q kind (Err part)) span a low high told may stands = silent before (λ d m there writes. absurd (subst (λ c. In m c) (no_calls q kind part a told) there))
 
 -- an operation's answer adds to what was noted what its calls have done
 noted_next : (t : AttemptTerms) (l : List Made) (from at n : ℕ) (so : Sofar) (o : Op) (log : OpLog) → OpFollows t l at n so o log → from ≤ at → IsNoted t l from at so → IsNoted t l from log.span.to (noted o log so)
@@ -299,7 +369,7 @@ noted_next t l from at n so o log follows begins before =
     (λ m there low high. in_during log.span m l there (after_gap l at log.span m follows.spanned there low) high)
     (λ m there. let it = during_in log.span m l there in (it.there, (let a = follows.spanned.follows in let b = it.low in omega arith), it.high))
     begins (let a = follows.spanned.follows in let b = span_order l at log.span follows.spanned in omega arith)
-    before (request_of so.bound o) log.span log.answer follows.answered follows.calls follows.stands
+    before (request_of so.bound o) log.span log.answer follows.spanned.follows (omega arith) follows.answered follows.calls follows.stands
 
 -- operations end where they begin, or later
 pub ops_low : (t : AttemptTerms) (l : List Made) (at n : ℕ) (so : Sofar) (ops : List Op) (logs : List OpLog) → OpsFollow t l at n so ops logs → at ≤ ops_end at logs
@@ -324,4 +394,5 @@ pub noted_none : (t : AttemptTerms) (l : List Made) (at : ℕ) → IsNoted t l a
 noted_none t l at = record {
   staged = λ d w is. absurd (none-some w is);
   free = λ d m none there low high stages. absurd (omega arith);
+  read = λ d last none is. absurd (none-some last is);
 }

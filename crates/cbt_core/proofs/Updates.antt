@@ -314,7 +314,7 @@ module _ (case : Case) (book : Book) (legal : IsLegalRun case book) (follow : Lo
   log_there : slice_get mine.attempt.ops index.0 ≡ Some over.op_log
   log_there = ap (λ (x : AttemptLog). slice_get x.ops index.0) log_same ∙ ap (λ k. numbered answered_as.attempt.ops k) (sym index.1) ∙ answered_as.log_is
 
-  done_at : OpAt mine.t l over.op over.op_log (walked (take index.0 mine.t.plan.ops) (take index.0 mine.attempt.ops) nothing_yet)
+  done_at : OpAt mine.t l (ops_end mine.at (take index.0 mine.attempt.ops)) over.op over.op_log (walked (take index.0 mine.t.plan.ops) (take index.0 mine.attempt.ops) nothing_yet)
   done_at = op_at mine.t l mine.at 1 nothing_yet mine.t.plan.ops mine.attempt.ops index.0 over.op over.op_log mine.follows.ops op_there log_there
 
   abbrev span : Span

@@ -1,7 +1,8 @@
 -- What the laws say of runs.
-use Rattle.std.specs.Prelude.{◌≡◌, ◌≢◌, ℕ, suc, ◌<◌, ◌≤◌, Bool, true, false, List, length, slice_get, Some, None}
+use Rattle.std.specs.Prelude.{◌≡◌, ◌≢◌, ℕ, suc, ◌<◌, ◌≤◌, Bool, true, false, List, length, slice_get, Option, Some, None}
+use Rattle.cbt_json.specs.declared.value.Json.{Json}
 use Rattle.cbt_expr.specs.declared.plans.Op.{Op}
-use Rattle.cbt_model.specs.History.{after, made_at, commits, TakesEffect, CommitsAt, RollsBackAt}
+use Rattle.cbt_model.specs.History.{after, own, made_at, commits, TakesEffect, CommitsAt, RollsBackAt}
 use Rattle.cbt_model.specs.Keys.{doc_at, entry_at}
 use Rattle.cbt_model.specs.Table.{touches_doc}
 use Rattle.cbt_model.specs.View.{view}
@@ -9,13 +10,17 @@ use Rattle.cbt_model.specs.declared.documents.DocState.{DocState}
 use Rattle.cbt_model.specs.declared.documents.Stage.{Stage}
 use Rattle.cbt_model.specs.declared.entries.Lists.{Lists}
 use Rattle.cbt_model.specs.declared.events.Event.{Event}
+use Rattle.cbt_model.specs.declared.events.Made.{Made}
 use Rattle.cbt_model.specs.declared.states.State.{State}
+use Rattle.cbt_model.specs.declared.steps.Expect.{Expect}
+use Rattle.cbt_model.specs.declared.steps.Expect.TheVariants as expect
 use Rattle.cbt_model.specs.declared.steps.Reply.TheVariants as reply
+use Rattle.cbt_model.specs.declared.steps.Step.{Step}
 use Rattle.cbt_model.specs.declared.steps.Step.TheVariants as step
 use Rattle.cbt_book.specs.Licence.{IsListed}
 use Rattle.cbt_book.specs.Numbers.{client_of}
-use Rattle.cbt_book.specs.OwnLists.{In}
-use Rattle.cbt_book.specs.Shown.{adds}
+use Rattle.cbt_book.specs.OwnLists.{In, during}
+use Rattle.cbt_book.specs.Shown.{ReadsDoc, FindsNoDoc, StagesAt, adds}
 use Rattle.cbt_book.specs.declared.book.Book.{Book}
 use Rattle.cbt_book.specs.declared.cleaners.CleanerLog.{CleanerLog}
 use Rattle.cbt_book.specs.declared.cleaners.PassEnd.TheVariants as pass_end
@@ -29,6 +34,7 @@ use Rattle.cbt_book.specs.declared.clients.TxnEnd.TheVariants as txn_end
 use Rattle.cbt_book.specs.declared.clients.TxnLog.{TxnLog}
 use Rattle.cbt_book.specs.declared.operations.OpAnswer.TheVariants as answer
 use Rattle.cbt_book.specs.declared.operations.OpLog.{OpLog}
+use Rattle.cbt_book.specs.declared.operations.Span.{Span}
 use Rattle.cbt_book.specs.declared.operations.When.TheVariants as when
 use Rattle.cbt_core.specs.Committed.{table_at}
 use Rattle.cbt_core.specs.Invariant.{DecidedAt}
@@ -64,6 +70,43 @@ pub data ChangedByOthers (s0 : State) (h : List Event) (actor : ℕ) (d : List �
 abbrev pub ContendedByOthers : Case → Book → Type 0
 ContendedByOthers case book = (client txn try_no n : ℕ) (o : Op) (log : OpLog) (so : Sofar) → IsAnswer case book client txn try_no n o log so → log.answer ≡ answer.Contended
     → ChangedByOthers book.kept.opening book.kept.history client (doc_of o) log.span.from 8 log.span.to
+
+-- an own call told that document d has this CAS, or that there is none: a reading of it, or a staging
+pub data TellsCas (d : List ℕ) (m : Made) : Expect → Type 0 where
+  found_none : FindsNoDoc d m → TellsCas d m expect.New
+  by_reading : (x : ℕ) (body : Option Json) (stage : Option Stage) → ReadsDoc d x body stage m → TellsCas d m (expect.Cas x)
+  by_staging : (x : ℕ) (stage : Stage) → StagesAt d x stage m → TellsCas d m (expect.Cas x)
+
+-- the document that a staging or an unstick writes, and what it expects of it
+abbrev pub expects : Step → Option (List ℕ × Expect)
+expects (step.Stage d ex stage) = Some (d, ex)
+expects (step.Unstick d x) = Some (d, expect.Cas x)
+expects _ = None
+
+-- the newest call of an operation of this attempt was refused a write of document d. After the own call that told what it expected
+-- of the document, and before it, another actor changed the document, and the client did not
+pub record MovedInBetween (s0 : State) (h : List Event) (client : ℕ) (d : List ℕ) (attempt operation : Span) : Type 0 where
+  pub told : Made
+  pub told_in : In told (during attempt (own s0 h client (length h)))
+  pub refused : Made
+  pub refused_in : In refused (during operation (own s0 h client (length h)))
+  pub newest : operation.to ≡ suc refused.answer.place
+  pub expected : Expect
+  pub tells : TellsCas d told expected
+  pub writes : expects refused.step ≡ Some (d, expected)
+  pub place : ℕ
+  pub event : Event
+  pub after : told.answer.place < place
+  pub before : place < refused.answer.place
+  pub takes : TakesEffect s0 h place event
+  pub touches : touches_doc event.step ≡ Some d
+  pub others : (k : ℕ) (e : Event) → told.answer.place < k → k < refused.answer.place → TakesEffect s0 h k e → touches_doc e.step ≡ Some d → e.actor ≢ client
+
+-- where an operation was answered Moved, another actor changed its document between the own reading or staging on which the write
+-- stood and the call that was refused
+abbrev pub MovedByOther : Case → Book → Type 0
+MovedByOther case book = (client txn try_no n : ℕ) (o : Op) (log : OpLog) (so : Sofar) (it : IsAnswer case book client txn try_no n o log so) → log.answer ≡ answer.Moved
+    → MovedInBetween book.kept.opening book.kept.history client (doc_of o) it.attempt.span log.span
 
 -- the attempt with this log staged document d over a reading at moment t, and never took that back
 pub record WroteOver (case : Case) (book : Book) (a : ℕ) (d : List ℕ) (t : ℕ) : Type 0 where
