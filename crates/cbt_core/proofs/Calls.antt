@@ -89,6 +89,10 @@ pub in_front : (m : Made) (xs ys : List Made) → In m xs → In m (xs ++ ys)
 in_front m [] ys there = absurd there
 in_front m (x ∷ xs) ys there = ⊎_elim (λ (same : m ≡ x). inl same) (λ (past : In m xs). inr (in_front m xs ys past)) there
 
+pub in_back : (m : Made) (xs ys : List Made) → In m ys → In m (xs ++ ys)
+in_back m [] ys there = there
+in_back m (x ∷ xs) ys there = inr (in_back m xs ys there)
+
 pub in_either : (m : Made) (xs ys : List Made) → In m (xs ++ ys) → In m xs ⊎ In m ys
 in_either m [] ys there = inr there
 in_either m (x ∷ xs) ys there =

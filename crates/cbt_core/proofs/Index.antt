@@ -142,6 +142,22 @@ try_at x l start at n (y ∷ logs) zero log follow is =
 try_at x l start at n (y ∷ logs) (suc j) log follow is =
     let it = try_at x l start y.span.to (suc n) logs j log follow.2 is in record { at = it.at; follows = subst (λ k. AttemptFollows (attempt_terms x start k) l it.at log) (plus_one n j) it.follows }
 
+-- attempts follow one another in place
+tries_from : (x : TxnTerms) (l : List Made) (start at n : ℕ) (logs : List AttemptLog) (j : ℕ) (log : AttemptLog) → AttemptsFollow x l start at n logs → slice_get logs j ≡ Some log → at ≤ log.span.from
+tries_from x l start at n [] j log follow is = absurd (none-some log is)
+tries_from x l start at n (y ∷ logs) zero log follow is = subst (λ (z : AttemptLog). at ≤ z.span.from) (some_same is) follow.0.spanned.follows
+tries_from x l start at n (y ∷ logs) (suc j) log follow is =
+    let rest = tries_from x l start y.span.to (suc n) logs j log follow.2 is in
+    let a = follow.0.spanned.follows in let b = span_order l at y.span follow.0.spanned in omega arith
+
+pub tries_apart : (x : TxnTerms) (l : List Made) (start at n : ℕ) (logs : List AttemptLog) (i j : ℕ) (one other : AttemptLog) → AttemptsFollow x l start at n logs → slice_get logs i ≡ Some one
+    → slice_get logs j ≡ Some other → i < j → one.span.to ≤ other.span.from
+tries_apart x l start at n [] i j one other follow is its low = absurd (none-some one is)
+tries_apart x l start at n (y ∷ logs) i zero one other follow is its low = absurd (omega arith)
+tries_apart x l start at n (y ∷ logs) zero (suc j) one other follow is its low =
+    subst (λ (z : AttemptLog). z.span.to ≤ other.span.from) (some_same is) (tries_from x l start y.span.to (suc n) logs j other follow.2 its)
+tries_apart x l start at n (y ∷ logs) (suc i) (suc j) one other follow is its low = tries_apart x l start y.span.to (suc n) logs i j one other follow.2 is its (omega arith)
+
 -- the transaction with this number
 pub record TxnAt (client atrs : ℕ) (l : List Made) (number : ℕ) (plan : TxnPlan) (log : TxnLog) : Type 0 where
   pub at : ℕ

@@ -29,4 +29,6 @@ pub mod Ended
 pub mod Evicted
 pub mod Contended
 pub mod OwnWrites
+pub mod Before
 pub mod Moved
+pub mod Blocked

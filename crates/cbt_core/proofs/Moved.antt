@@ -33,19 +33,19 @@ use Rattle.cbt_book.specs.declared.operations.When.{When}
 use Rattle.cbt_core.specs.Laws.{TellsCas, found_none, by_reading, by_staging, expects, MovedInBetween, MovedByOther}
 use Rattle.cbt_core.specs.OpAnswers.{StandsOn, StagesOver, TakesBack, HasCas, IsMoved, Answered, expected, is_refusal}
 use Rattle.cbt_core.specs.OpAnswers as operations
-use Rattle.cbt_core.specs.OpCalls.{MayGet, MayWrite, OpCalls, WriteCalls, writes_doc}
+use Rattle.cbt_core.specs.OpCalls.{MayWrite, OpCalls, WriteCalls, writes_doc}
 use Rattle.cbt_core.specs.Right.{IsAnswer, doc_of}
 use Rattle.cbt_core.specs.Runs.{IsLegalRun, LogsFollow, own_of}
-use Rattle.cbt_core.specs.Walk.{AttemptTerms, Sofar, OwnWrite, Request, Reads, Writes, request_of, content_of, walked, nothing_yet}
+use Rattle.cbt_core.specs.Walk.{AttemptTerms, Sofar, OwnWrite, Writes, request_of, content_of}
 use Rattle.cbt_core.specs.declared.case.Case.{Case}
 use Rattle.cbt_core.proofs.Answers.{doc_told, no_doc_told, done_told, effect_told, Meets, stage_refused_told, unstick_not_met_told}
+use Rattle.cbt_core.proofs.Before.{op_here, noted_before, none_failed_yet, early_writes, from_at, write_touches}
 use Rattle.cbt_core.proofs.Calls.{during_in, in_during, after_gap, own_in, each_of, some_call, call_once}
 use Rattle.cbt_core.proofs.Contended.{ChangeBetween, change_between}
 use Rattle.cbt_core.proofs.Documents.{doc_then, after_stage}
-use Rattle.cbt_core.proofs.Find.{find_op, none_failed}
-use Rattle.cbt_core.proofs.Index.{OpOf, op_of_run}
+use Rattle.cbt_core.proofs.Index.{OpOf}
 use Rattle.cbt_core.proofs.Lawful.{Lawful}
-use Rattle.cbt_core.proofs.Noted.{WritesDone, IsNoted, noted_all, noted_none, ops_low}
+use Rattle.cbt_core.proofs.Noted.{WritesDone, IsNoted}
 use Rattle.cbt_core.proofs.Past.{some_same, one_event, Order, first, equal, after as later_one, order, in_at, Member}
 use Rattle.cbt_core.proofs.Readings.{Descends, own_descends, filter_descends, found_at}
 
@@ -80,25 +80,6 @@ told_by d it l falls (ways.dead x stage cas by gone once) =
     × Once (λ n earlier. FindsNoEntry stage.atr stage.attempt n
     × Once (λ k _. (body : Option Json) × ReadsDoc d x body (Some stage) k) earlier) before) l falls once in
     by_doc d it l f.call x it.value f.holds.1.0 cas f.there f.holds.1.1
-
--- the calls of an operation that change a document are its stagings and unsticks
-get_touches : (q d : List ℕ) (st : Step) → MayGet q st → touches_doc st ≡ Some d → ⊥
-get_touches q d (step.ReadDoc p) may touches = none-some d touches
-get_touches q d (step.ReadEntry r a) may touches = none-some d touches
-get_touches q d _ may touches = may
-
-write_touches : (t : AttemptTerms) (q d : List ℕ) (m : Made) (st : Step) → m.step ≡ st → MayWrite t q st → touches_doc st ≡ Some d → (writes_doc st ≡ true) × (is_done m.answer.reply ≡ true → WritesDone d m)
-write_touches t q d m (step.Stage p ex stage) is may touches =
-    (refl, λ done. inl (record { expects = ex; stage = stage; is = is ∙ ap (λ x. step.Stage x ex stage) (some_same touches); done = done }))
-write_touches t q d m (step.Unstick p x) is may touches = (refl, λ done. inr (record { cas = x; is = is ∙ ap (λ y. step.Unstick y x) (some_same touches); done = done }))
-write_touches t q d m (step.ReadDoc p) is may touches = absurd (none-some d touches)
-write_touches t q d m (step.ReadEntry r a) is may touches = absurd (none-some d touches)
-write_touches t q d m (step.AddEntry r a exp) is may touches = absurd (none-some d touches)
-write_touches t q d m _ is may touches = absurd may
-
-op_touches : (t : AttemptTerms) (r : Request) (calls : List Made) (d : List ℕ) (m : Made) → OpCalls t r calls → In m calls → touches_doc m.step ≡ Some d → is_done m.answer.reply ≡ true → WritesDone d m
-op_touches t (Reads q name) calls d m may there touches done = absurd (get_touches q d m.step (each_of (λ x. MayGet q x.step) calls m may.only there) touches)
-op_touches t (Writes q kind content) calls d m may there touches done = (write_touches t q d m m.step refl (each_of (λ x. MayWrite t q x.step) calls m may.only there) touches).1 done
 
 -- an operation that was answered Moved, as a write
 record MovedWrite (t : AttemptTerms) (l : List Made) (so : Sofar) (d : List ℕ) (calls : List Made) : Type 0 where
@@ -240,8 +221,8 @@ module _ (case : Case) (book : Book) (legal : IsLegalRun case book) (follow : Lo
   abbrev made : List Made
   made = during log.span own_list
 
-  here : OpOf case book legal follow client txn try_no it.plan it.attempt o log so
-  here = op_of_run case book legal follow client txn try_no n o log so it
+  abbrev here : OpOf case book legal follow client txn try_no it.plan it.attempt o log so
+  here = op_here case book legal follow client txn try_no n o log so it
 
   write : MovedWrite here.t own_list so d made
   write = moved_write here.t own_list so o made (subst (λ a. Answered here.t own_list so (request_of so.bound o) made a) answered here.follows.answered) here.follows.calls
@@ -283,10 +264,7 @@ module _ (case : Case) (book : Book) (legal : IsLegalRun case book) (follow : Lo
       go (spans.with_calls front last in_front in_last from to) = let a = high in let b = below last (one_of last in_last) in omega arith
 
   told_before : IsNoted here.t own_list here.from here.at so
-  told_before =
-      subst (λ s. IsNoted here.t own_list here.from here.at s) (sym here.so_is)
-      (subst (λ i. IsNoted here.t own_list here.from i (walked here.ops here.logs nothing_yet)) (sym here.at_is)
-      (noted_all here.t own_list here.from here.from 1 nothing_yet here.ops here.logs here.before (omega arith) (noted_none here.t own_list here.from)))
+  told_before = noted_before case book legal follow client txn try_no n o log so it
 
   -- a call since the operation's begin and before its newest does not change the document
   here_none : (m : Made) → In m own_list → here.at ≤ m.answer.place → m.answer.place < newest.answer.place → touches_doc m.step ≡ Some d → ⊥
@@ -301,22 +279,11 @@ module _ (case : Case) (book : Book) (legal : IsLegalRun case book) (follow : Lo
           (subst (λ c. Each (λ x before. ¬ Once (λ y _. writes_doc y.step ≡ true) before) c) write.moved.calls_are write.may.written_last).0
           (call_once (λ y. writes_doc y.step ≡ true) older m past (write_touches here.t d d m m.step refl (each_of (λ x. MayWrite here.t d x.step) made m write.may.only in_made) touches).0)
 
-  -- a call of an operation before
-  early_writes : (m : Made) → In m own_list → here.from ≤ m.answer.place → m.answer.place < here.at → touches_doc m.step ≡ Some d → is_done m.answer.reply ≡ true → WritesDone d m
-  early_writes m there low high touches done =
-      let home = find_op here.t own_list here.from 1 nothing_yet here.ops here.logs m here.before there low (let a = here.at_is in omega arith) in
-      op_touches here.t (request_of home.sofar.bound home.op) (during home.log.span own_list) d m home.follows.calls home.inside touches done
+  no_failure : (place : ℕ) → log.answer ≢ answer.CallFailed place
+  no_failure place same = no_call_failed place (sym answered ∙ same)
 
   unfailed : (m : Made) → In m own_list → here.from ≤ m.answer.place → m.answer.place < newest.answer.place → m.answer.reply ≢ reply.Failed
-  unfailed m there low high failed =
-      ⊎_elim (λ (early : m.answer.place < here.at).
-      none_failed here.t own_list here.from 1 nothing_yet here.ops here.logs m here.before here.good there low (let a = here.at_is in omega arith) failed)
-      (λ (late : here.at ≤ m.answer.place).
-      no_call_failed m.answer.place
-      (sym answered
-      ∙ each_of (λ x. x.answer.reply ≡ reply.Failed → log.answer ≡ answer.CallFailed x.answer.place) made m here.follows.failed
-      (in_during log.span m own_list there (after_gap own_list here.at log.span m here.follows.spanned there late) (let e = ends in omega arith)) failed))
-      (cases_lt m.answer.place here.at)
+  unfailed m there low high = none_failed_yet case book legal follow client txn try_no n o log so it no_failure m there low (let e = ends in omega arith)
 
   moved_since : (told : Made) (ex : Expect) → In told own_list → here.from ≤ told.answer.place → told.answer.place < newest.answer.place → TellsCas d told ex → expects newest.step ≡ Some (d, ex)
       → ((m : Made) → In m own_list → told.answer.place < m.answer.place → m.answer.place < here.at → WritesDone d m → ⊥)
@@ -325,7 +292,7 @@ module _ (case : Case) (book : Book) (legal : IsLegalRun case book) (follow : Lo
       moved_between book.kept.opening book.kept.history lawful client d it.attempt.span log.span told newest ex in_attempt newest_in ends tells writes write.moved.refused below
       (λ m m_there after before. unfailed m m_there (omega arith) before)
       (λ m m_there after before touches done.
-      ⊎_elim (λ (early : m.answer.place < here.at). none m m_there after early (early_writes m m_there (omega arith) early touches done))
+      ⊎_elim (λ (early : m.answer.place < here.at). none m m_there after early (early_writes case book legal follow client txn try_no n o log so it d m m_there (omega arith) early touches done))
       (λ (late : here.at ≤ m.answer.place). here_none m m_there late before touches) (cases_lt m.answer.place here.at))
     where
       in_attempt : In told (during it.attempt.span own_list)
@@ -348,12 +315,9 @@ module _ (case : Case) (book : Book) (legal : IsLegalRun case book) (follow : Lo
       let inside = during_in log.span told.call own_list told.there in
       let begins = here.follows.spanned.follows in
       let low = inside.low in
-      moved_since told.call (expected it_read.cas) inside.there (let f = from_at in omega arith) (below told.call told.reads (one_of told.call told.there)) told.tells (ap expects st)
+      moved_since told.call (expected it_read.cas) inside.there (let f = from_at case book legal follow client txn try_no n o log so it in omega arith) (below told.call told.reads (one_of told.call told.there)) told.tells (ap expects st)
       (λ m there after before writes. absurd (omega arith))
     where
-      from_at : here.from ≤ here.at
-      from_at = let a = here.at_is in let b = ops_low here.t own_list here.from 1 nothing_yet here.ops here.logs here.before in omega arith
-
       differ : (q : List ℕ) (ex : Expect) (stage : Stage) → step.ReadDoc q ≡ step.Stage q ex stage → ⊥
       differ q ex stage same = cc
 

@@ -1,5 +1,5 @@
 -- At most one attempt of a transaction commits.
-use Rattle.std.proofs.Common.{◌≡◌, ◌≢◌, ℕ, zero, suc, ◌+◌, ◌<◌, Bool, true, false, inl, inr, ⊎_elim, List, [], ◌∷◌, ◌++◌, length, slice_get, option_and_then, Some, refl, sym, ap, ◌∙◌, subst, arith}
+use Rattle.std.proofs.Common.{◌≡◌, ◌≢◌, ℕ, zero, suc, ◌+◌, ◌<◌, ◌≤◌, Bool, true, false, inl, inr, ⊎_elim, List, [], ◌∷◌, ◌++◌, length, slice_get, option_and_then, Some, refl, sym, ap, ◌∙◌, subst, arith}
 use Rattle.std.proofs.lemmas.Option.{none-some, slice_get_within}
 use Rattle.cbt_base.specs.Ids.{attempt_number}
 use Rattle.cbt_expr.specs.declared.plans.ClientPlan.{ClientPlan}
@@ -42,7 +42,7 @@ use Rattle.cbt_core.proofs.Commits.{Inside, never_aborted, kept, it as attempt_i
 use Rattle.cbt_core.proofs.Decisions.{Closing, commit, closed_last, commits_is, commits_once, closer, not_at_first}
 use Rattle.cbt_core.proofs.Entries.{Deciding, by_commit, by_abort, Settled, by_decision, in_opening, settled, entry_then}
 use Rattle.cbt_core.proofs.Find.{Decodes, decodes}
-use Rattle.cbt_core.proofs.Index.{found, from_one, TxnOf, txn_of_run, TryOf, try_of_run}
+use Rattle.cbt_core.proofs.Index.{found, from_one, tries_apart, TxnOf, txn_of_run, TryOf, try_of_run}
 use Rattle.cbt_core.proofs.Lawful.{Lawful}
 use Rattle.cbt_core.proofs.Owners.{small_txn, numbered_there, numbered_within, AttemptOf, Part, part_of, in_ops, in_cut, in_closing}
 use Rattle.cbt_core.proofs.Past.{some_same, one_event, Order, first, equal, after as later_one, order, in_at, Member}
@@ -107,6 +107,10 @@ aborts_is (step.Beat me expires n gone) a is = absurd (none-some a is)
 front_falls : (xs ys : List Made) → Descends (xs ++ ys) → Descends xs
 front_falls [] ys falls = tt
 front_falls (x ∷ xs) ys falls = ((λ n there. falls.0 n (in_front n xs ys there)), front_falls xs ys falls.1)
+
+pub back_falls : (xs ys : List Made) → Descends (xs ++ ys) → Descends ys
+back_falls [] ys falls = falls
+back_falls (x ∷ xs) ys falls = back_falls xs ys falls.1
 
 module _ (case : Case) (book : Book) (legal : IsLegalRun case book) (follow : LogsFollow case book) (lawful : Lawful book.kept.opening book.kept.history) where
   abbrev s0 : State
@@ -276,17 +280,26 @@ module _ (case : Case) (book : Book) (legal : IsLegalRun case book) (follow : Lo
   last_try P (x ∷ []) last = (x, refl, last)
   last_try P (x ∷ y ∷ logs) last = last_try P (y ∷ logs) last
 
-  -- an attempt with a later one after it has no commit
-  earlier_none : (client txn j k p : ℕ) (one other : AttemptLog) → attempt_at book.clients client txn j ≡ Some one → attempt_at book.clients client txn k ≡ Some other → j < k → CommitsAt s0 h one.id p → ⊥
-  earlier_none client txn j k p one other one_is other_is low it =
+  -- two attempts of a transaction: the earlier was to be tried again, and the later begins after it
+  pub one_then_other : (client txn j k : ℕ) (one other : AttemptLog) → attempt_at book.clients client txn j ≡ Some one → attempt_at book.clients client txn k ≡ Some other → j < k
+      → IsRetried one × (one.span.to ≤ other.span.from)
+  one_then_other client txn j k one other one_is other_is low =
       let t = tx client txn j one one_is in
       let u = tx client txn k other other_is in
       let same : u.0 ≡ t.0 = some_same (sym u.1 ∙ t.1) in
       let high = (numbered_within u.0.attempts k other u.2).1 in
       let i = from_one t.0.attempts j one t.2 in
-      none_commits client txn j one one_is p it
-      (retried_end one (retried_before _ (own_of book client) (in_txn client txn j one one_is).follows.start (in_txn client txn j one one_is).at 1 t.0.attempts i.0 one (in_txn client txn j one one_is).follows.attempts i.2
-      (let e = ap (λ (x : TxnLog). length x.attempts) same in let w = i.1 in omega arith)))
+      let m = from_one t.0.attempts k other (ap (λ (x : TxnLog). numbered x.attempts k) (sym same) ∙ u.2) in
+      let w = i.1 in let v = m.1 in
+      let txn_is = in_txn client txn j one one_is in (
+        retried_before _ (own_of book client) txn_is.follows.start txn_is.at 1 t.0.attempts i.0 one txn_is.follows.attempts i.2 (let e = ap (λ (x : TxnLog). length x.attempts) same in omega arith),
+        tries_apart _ (own_of book client) txn_is.follows.start txn_is.at 1 t.0.attempts i.0 m.0 one other txn_is.follows.attempts i.2 m.2 (omega arith),
+      )
+
+  -- an attempt with a later one after it has no commit
+  earlier_none : (client txn j k p : ℕ) (one other : AttemptLog) → attempt_at book.clients client txn j ≡ Some one → attempt_at book.clients client txn k ≡ Some other → j < k → CommitsAt s0 h one.id p → ⊥
+  earlier_none client txn j k p one other one_is other_is low it =
+      none_commits client txn j one one_is p it (retried_end one (one_then_other client txn j k one other one_is other_is low).0)
 
   pub one_commits : (client txn j k p q : ℕ) → TxnCommitsAt book client txn j p → TxnCommitsAt book client txn k q → (j ≡ k) × (p ≡ q)
   one_commits client txn j k p q one two = go (order j k)

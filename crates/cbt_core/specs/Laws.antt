@@ -8,6 +8,7 @@ use Rattle.cbt_model.specs.Table.{touches_doc}
 use Rattle.cbt_model.specs.View.{view}
 use Rattle.cbt_model.specs.declared.documents.DocState.{DocState}
 use Rattle.cbt_model.specs.declared.documents.Stage.{Stage}
+use Rattle.cbt_model.specs.declared.entries.Entry.{Entry}
 use Rattle.cbt_model.specs.declared.entries.Lists.{Lists}
 use Rattle.cbt_model.specs.declared.events.Event.{Event}
 use Rattle.cbt_model.specs.declared.events.Made.{Made}
@@ -18,7 +19,7 @@ use Rattle.cbt_model.specs.declared.steps.Reply.TheVariants as reply
 use Rattle.cbt_model.specs.declared.steps.Step.{Step}
 use Rattle.cbt_model.specs.declared.steps.Step.TheVariants as step
 use Rattle.cbt_book.specs.Licence.{IsListed}
-use Rattle.cbt_book.specs.Numbers.{client_of}
+use Rattle.cbt_book.specs.Numbers.{client_of, txn_of}
 use Rattle.cbt_book.specs.OwnLists.{In, during}
 use Rattle.cbt_book.specs.Shown.{ReadsDoc, FindsNoDoc, StagesAt, adds}
 use Rattle.cbt_book.specs.declared.book.Book.{Book}
@@ -107,6 +108,17 @@ pub record MovedInBetween (s0 : State) (h : List Event) (client : ℕ) (d : List
 abbrev pub MovedByOther : Case → Book → Type 0
 MovedByOther case book = (client txn try_no n : ℕ) (o : Op) (log : OpLog) (so : Sofar) (it : IsAnswer case book client txn try_no n o log so) → log.answer ≡ answer.Moved
     → MovedInBetween book.kept.opening book.kept.history client (doc_of o) it.attempt.span log.span
+
+-- the attempt `by` is of no transaction with these numbers; or the run began with its entry, which then no attempt of the run has
+-- added
+pub data IsOfAnother (s0 : State) (client txn by : ℕ) : Type 0 where
+  other_transaction : ¬ ((client_of by ≡ client) × (txn_of by ≡ txn)) → IsOfAnother s0 client txn by
+  left_over : (r : ℕ) (e : Entry) → entry_at s0 (r, by) ≡ Some e → IsOfAnother s0 client txn by
+
+-- where an operation was answered Blocked, it was by an attempt of another transaction
+abbrev pub BlockedByAnother : Case → Book → Type 0
+BlockedByAnother case book = (client txn try_no n by : ℕ) (o : Op) (log : OpLog) (so : Sofar) → IsAnswer case book client txn try_no n o log so → log.answer ≡ answer.Blocked by
+    → IsOfAnother book.kept.opening client txn by
 
 -- the attempt with this log staged document d over a reading at moment t, and never took that back
 pub record WroteOver (case : Case) (book : Book) (a : ℕ) (d : List ℕ) (t : ℕ) : Type 0 where

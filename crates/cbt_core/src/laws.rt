@@ -7,7 +7,7 @@ ghost use Rattle.cbt_model.specs.declared.events.Event.{Event};
 ghost use Rattle.cbt_model.specs.declared.states.State.{State};
 ghost use Rattle.cbt_core.specs.Committed.{table_at, table_of, commits_count};
 ghost use Rattle.cbt_core.specs.Invariant.{StampsRise, AddedOnce, DecidedOnce, HeldWhilePending, ListedWhenDecided, GoneWhenFinished, ShownStays, CommitsOwnWrites};
-ghost use Rattle.cbt_core.specs.Laws.{NeverBoth, CommitsOnce, NoCommitDecided, DocumentsCommitted, NoUpdateLost, ContendedByOthers, MovedByOther, PassesLeaveNothing, AttemptsLeaveNothing, LostByEviction, AtMostOnce};
+ghost use Rattle.cbt_core.specs.Laws.{NeverBoth, CommitsOnce, NoCommitDecided, DocumentsCommitted, NoUpdateLost, ContendedByOthers, MovedByOther, BlockedByAnother, PassesLeaveNothing, AttemptsLeaveNothing, LostByEviction, AtMostOnce};
 ghost use Rattle.cbt_core.specs.Openings.{AreFresh, IsSound};
 ghost use Rattle.cbt_core.specs.Right.{AnswersRight, MomentsRise};
 ghost use Rattle.cbt_core.specs.Runs.{AreLicensed, IsFresh, IsLegalRun, LogsFollow};
@@ -81,7 +81,8 @@ pub fn k2(case: &Case, book: &Book)
 /// table has at one moment of the operation's span. A client's moments rise. Where an operation was
 /// answered Contended, other actors changed its document eight times in its span. Where one was answered
 /// Moved, another actor changed its document between the own reading or staging on which the write stood
-/// and the call that was refused.
+/// and the call that was refused. Where one was answered Blocked, it was by an attempt of another
+/// transaction, or by one whose entry stood in the opening.
 pub fn k3(case: &Case, book: &Book)
     requires legal { IsLegalRun case.now book.now }
     requires licensed { AreLicensed case.now book.now }
@@ -92,6 +93,7 @@ pub fn k3(case: &Case, book: &Book)
     ensures moments { MomentsRise book.now }
     ensures contended { ContendedByOthers case.now book.now }
     ensures moved { MovedByOther case.now book.now }
+    ensures blocked { BlockedByAnother case.now book.now }
 {
     let _ = case;
     let _ = book;

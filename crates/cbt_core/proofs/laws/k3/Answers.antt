@@ -1,3 +1,4 @@
+use Rattle.cbt_core.proofs.Blocked.{blocked_by_another}
 use Rattle.cbt_core.proofs.Contended.{contended_by_others}
 use Rattle.cbt_core.proofs.FreshOpenings.{lawful_run}
 use Rattle.cbt_core.proofs.Moved.{moved_by_other}
@@ -23,3 +24,8 @@ pub returns-clause-moved : goal.returns-clause-moved
 returns-clause-moved c client txn try_no n o log so it answered =
     moved_by_other c.args.case.now c.args.book.now c.requires.legal c.requires.follow
     (lawful_run c.args.case.now c.args.book.now c.requires.legal c.requires.licensed c.requires.sound c.requires.fresh) client txn try_no n o log so it answered
+
+pub returns-clause-blocked : goal.returns-clause-blocked
+returns-clause-blocked c client txn try_no n by o log so it answered =
+    blocked_by_another c.args.case.now c.args.book.now c.requires.legal c.requires.follow
+    (lawful_run c.args.case.now c.args.book.now c.requires.legal c.requires.licensed c.requires.sound c.requires.fresh) client txn try_no n by o log so it answered
