@@ -16,9 +16,9 @@ use Rattle.cbt_book.specs.declared.operations.OpLog.{OpLog}
 use Rattle.cbt_core.specs.OpCalls.{MayGet, MayWrite, OpCalls, writes_doc}
 use Rattle.cbt_core.specs.Right.{IsAnswer}
 use Rattle.cbt_core.specs.Runs.{IsLegalRun, LogsFollow, own_of}
-use Rattle.cbt_core.specs.Walk.{AttemptTerms, Sofar, Request, Reads, Writes, request_of, walked, nothing_yet}
+use Rattle.cbt_core.specs.Walk.{AttemptTerms, Sofar, Request, Reads, Writes, Tests, request_of, walked, nothing_yet}
 use Rattle.cbt_core.specs.declared.case.Case.{Case}
-use Rattle.cbt_core.proofs.Calls.{in_during, after_gap, each_of}
+use Rattle.cbt_core.proofs.Calls.{in_empty, in_during, after_gap, each_of}
 use Rattle.cbt_core.proofs.Find.{find_op, none_failed}
 use Rattle.cbt_core.proofs.Index.{OpOf, op_of_run}
 use Rattle.cbt_core.proofs.Noted.{WritesDone, IsNoted, noted_all, noted_none, ops_low}
@@ -42,6 +42,7 @@ write_touches t q d m _ is may touches = absurd may
 op_touches : (t : AttemptTerms) (r : Request) (calls : List Made) (d : List ℕ) (m : Made) → OpCalls t r calls → In m calls → touches_doc m.step ≡ Some d → is_done m.answer.reply ≡ true → WritesDone d m
 op_touches t (Reads q name) calls d m may there touches done = absurd (get_touches q d m.step (each_of (λ x. MayGet q x.step) calls m may.only there) touches)
 op_touches t (Writes q kind content) calls d m may there touches done = (write_touches t q d m m.step refl (each_of (λ x. MayWrite t q x.step) calls m may.only there) touches).1 done
+op_touches t (Tests truth) calls d m may there touches done = absurd (in_empty m calls may there)
 
 module _ (case : Case) (book : Book) (legal : IsLegalRun case book) (follow : LogsFollow case book)
     (client txn try_no n : ℕ) (o : Op) (log : OpLog) (so : Sofar) (it : IsAnswer case book client txn try_no n o log so) where

@@ -107,6 +107,7 @@ blocked_write t l so by (op.Get d name) calls told = absurd told
 blocked_write t l so by (op.Insert d value) calls told = by_value t l so d Insert by (value_of so.bound value) calls told
 blocked_write t l so by (op.Replace d value) calls told = by_value t l so d Replace by (value_of so.bound value) calls told
 blocked_write t l so by (op.Remove d) calls told = record { kind = Remove; blocked = told }
+blocked_write t l so by (op.Need cond) calls told = absurd told
 
 -- a call that showed the entry
 shown_entry : (r a : ℕ) (asked : List Made) → length asked ≡ 4 → Each (λ m _. (e : Entry) × ReadsEntry r a e m) asked → (m : Made) × In m asked × ((e : Entry) × ReadsEntry r a e m)

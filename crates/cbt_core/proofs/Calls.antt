@@ -11,7 +11,7 @@ use Rattle.cbt_book.specs.Spans.{IsSpan}
 use Rattle.cbt_book.specs.declared.operations.Span.{Span}
 use Rattle.cbt_core.proofs.Past.{at_once}
 
-in_empty : {X : Type 0} (x : X) (l : List X) → l ≡ [] → In x l → ⊥
+pub in_empty : {X : Type 0} (x : X) (l : List X) → l ≡ [] → In x l → ⊥
 in_empty x l none there = subst (λ m. In x m) none there
 
 pub in_filter : (p : Made → Bool) (m : Made) (l : List Made) → In m l → p m ≡ true → In m (filter p l)

@@ -27,14 +27,14 @@ use Rattle.cbt_book.specs.declared.book.Book.{Book}
 use Rattle.cbt_book.specs.declared.clients.AttemptLog.{AttemptLog}
 use Rattle.cbt_core.specs.Attempts.{MayClose, MayKeep, AttemptFollows, course_of}
 use Rattle.cbt_core.specs.Invariant.{StagesEffectively, WritesNoMore}
-use Rattle.cbt_core.specs.Walk.{AttemptTerms, Sofar, OwnWrite, Request, Reads, Writes, walked, nothing_yet, request_of}
+use Rattle.cbt_core.specs.Walk.{AttemptTerms, Sofar, OwnWrite, Request, Reads, Writes, Tests, walked, nothing_yet, request_of}
 use Rattle.cbt_core.specs.OpCalls.{OpCalls, MayGet, MayWrite}
 use Rattle.cbt_core.specs.Operations.{ops_end}
 use Rattle.cbt_core.specs.Runs.{IsLegalRun, LogsFollow, own_of}
 use Rattle.cbt_core.specs.WriteSets.{log_of, write_set}
 use Rattle.cbt_core.specs.declared.case.Case.{Case}
 use Rattle.cbt_core.proofs.Answers.{effect_told}
-use Rattle.cbt_core.proofs.Calls.{each_of, some_call, call_once, own_in, after_gap}
+use Rattle.cbt_core.proofs.Calls.{in_empty, each_of, some_call, call_once, own_in, after_gap}
 use Rattle.cbt_core.proofs.Decisions.{Closing, commit, abort, closer, closed_last, AtDecision, at_decision, is_commit}
 use Rattle.cbt_core.proofs.Documents.{doc_then, stamp, StagedBy, by_staging, from_first, staged_by}
 use Rattle.cbt_core.proofs.Find.{Home, none_failed}
@@ -63,6 +63,7 @@ op_for t (Writes d kind content) calls m a may there (adding r exp is) = sym (su
 op_for t (Writes d kind content) calls m a may there (staging q ex stage is own_one) = sym (subst (λ st. MayWrite t d st) is (each_of (λ x. MayWrite t d x.step) calls m may.only there)).1 ∙ own_one
 op_for t (Writes d kind content) calls m a may there (closing_it r lists (commit is)) = absurd (subst (λ st. MayWrite t d st) is (each_of (λ x. MayWrite t d x.step) calls m may.only there))
 op_for t (Writes d kind content) calls m a may there (closing_it r lists (abort is)) = absurd (subst (λ st. MayWrite t d st) is (each_of (λ x. MayWrite t d x.step) calls m may.only there))
+op_for t (Tests truth) calls m a may there is = absurd (in_empty m calls may there)
 
 close_for : (id : ℕ) (past : List Made) (st : Step) (a : ℕ) → MayClose id past st → IsFor a st → id ≡ a
 close_for id past st a may (adding r exp is) = absurd (subst (λ x. MayClose id past x) is may)
@@ -185,6 +186,7 @@ module _ (case : Case) (book : Book) (legal : IsLegalRun case book) (follow : Lo
     not_op : (t : AttemptTerms) (req : Request) (calls : List Made) → OpCalls t req calls → In (made_at s0 h q e) calls → ⊥
     not_op t (Reads d name) calls may_call there = subst (λ st. MayGet d st) is (each_of (λ x. MayGet d x.step) calls (made_at s0 h q e) may_call.only there)
     not_op t (Writes d kind content) calls may_call there = subst (λ st. MayWrite t d st) is (each_of (λ x. MayWrite t d x.step) calls (made_at s0 h q e) may_call.only there)
+    not_op t (Tests truth) calls may_call there = in_empty (made_at s0 h q e) calls may_call there
 
     pub record Kept : Type 0 where
       pub late : ops_to ≤ q

@@ -173,6 +173,7 @@ contended_at t l so (op.Get d name) made told = told.1
 contended_at t l so (op.Insert d value) made told = by_value t l so d Insert (value_of so.bound value) made told
 contended_at t l so (op.Replace d value) made told = by_value t l so d Replace (value_of so.bound value) made told
 contended_at t l so (op.Remove d) made told = told.1
+contended_at t l so (op.Need cond) made told = absurd told
 
 pub contended_by_others : (case : Case) (book : Book) (legal : IsLegalRun case book) (follow : LogsFollow case book) (lawful : Lawful book.kept.opening book.kept.history) → ContendedByOthers case book
 contended_by_others case book legal follow lawful client txn try_no n o log so it answered =

@@ -20,10 +20,10 @@ use Rattle.cbt_core.specs.Attempts.{Ends, MayClose, AttemptFollows, course_of}
 use Rattle.cbt_core.specs.Laws.{IsEvictedBefore, LostByEviction}
 use Rattle.cbt_core.specs.OpCalls.{OpCalls, MayGet, MayWrite}
 use Rattle.cbt_core.specs.Runs.{IsLegalRun, LogsFollow, own_of}
-use Rattle.cbt_core.specs.Walk.{AttemptTerms, Request, Reads, Writes, request_of}
+use Rattle.cbt_core.specs.Walk.{AttemptTerms, Request, Reads, Writes, Tests, request_of}
 use Rattle.cbt_core.specs.declared.case.Case.{Case}
 use Rattle.cbt_core.proofs.Answers.{commit_none_told}
-use Rattle.cbt_core.proofs.Calls.{each_of, during_in, in_front}
+use Rattle.cbt_core.proofs.Calls.{in_empty, each_of, during_in, in_front}
 use Rattle.cbt_core.proofs.Commits.{closing_it, owner_of, owned_call}
 use Rattle.cbt_core.proofs.Decisions.{Added, added_at, Closing, commit, abort, closed_last, commits_is}
 use Rattle.cbt_core.proofs.Ended.{kept_call}
@@ -38,6 +38,7 @@ use Rattle.cbt_core.proofs.Worth.{HasDecided, decided_shown}
 never_op : (t : AttemptTerms) (req : Request) (calls : List Made) (m : Made) (r a : ℕ) → OpCalls t req calls → In m calls → m.step ≡ step.DropEntry r a true → ⊥
 never_op t (Reads d name) calls m r a may_call there is = subst (λ st. MayGet d st) is (each_of (λ x. MayGet d x.step) calls m may_call.only there)
 never_op t (Writes d kind content) calls m r a may_call there is = subst (λ st. MayWrite t d st) is (each_of (λ x. MayWrite t d x.step) calls m may_call.only there)
+never_op t (Tests truth) calls m r a may_call there is = in_empty m calls may_call there
 
 never_part : (t : AttemptTerms) (l : List Made) (at : ℕ) (log : AttemptLog) (follows : AttemptFollows t l at log) (m : Made) (r a : ℕ) → Part t l at log follows m → m.step ≡ step.DropEntry r a true → ⊥
 never_part t l at log follows m r a (in_ops home early) is = never_op t (request_of home.sofar.bound home.op) (during home.log.span l) m r a home.follows.calls home.inside is

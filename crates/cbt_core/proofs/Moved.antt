@@ -99,6 +99,7 @@ moved_write t l so (op.Get d name) calls told may = absurd told
 moved_write t l so (op.Insert d value) calls told may = by_value t l so d Insert (value_of so.bound value) calls told may
 moved_write t l so (op.Replace d value) calls told may = by_value t l so d Replace (value_of so.bound value) calls told may
 moved_write t l so (op.Remove d) calls told may = record { kind = Remove; content = None; moved = told; may = may }
+moved_write t l so (op.Need cond) calls told may = absurd told
 
 no_true : false ≡ true → ⊥
 no_true same = cc

@@ -22,12 +22,12 @@ use Rattle.cbt_book.specs.declared.operations.OpLog.{OpLog}
 use Rattle.cbt_book.specs.declared.operations.Span.{Span}
 use Rattle.cbt_book.specs.declared.operations.When.{When}
 use Rattle.cbt_book.specs.declared.operations.When.TheVariants as when
-use Rattle.cbt_core.specs.Walk.{AttemptTerms, Sofar, OwnWrite, LastRead, Request, Reads, Writes, request_of, noted, noted_as, walked, with_value, nothing_yet, kind_over, own_kind}
+use Rattle.cbt_core.specs.Walk.{AttemptTerms, Sofar, OwnWrite, LastRead, Request, Reads, Writes, Tests, request_of, noted, noted_as, walked, with_value, nothing_yet, kind_over, own_kind}
 use Rattle.cbt_core.specs.OpAnswers.{StagesOver, TakesBack, DoneAt, Answered}
 use Rattle.cbt_core.specs.OpCalls.{MayGet, MayWrite, OpCalls}
 use Rattle.cbt_core.specs.Operations.{StandsAt, OpFollows, OpsFollow, ops_end}
 use Rattle.cbt_core.specs.OpAnswers as operations
-use Rattle.cbt_core.proofs.Calls.{in_during, during_in, after_gap, each_of, some_call}
+use Rattle.cbt_core.proofs.Calls.{in_empty, in_during, during_in, after_gap, each_of, some_call}
 use Rattle.cbt_core.proofs.Past.{some_same}
 
 -- a staging of document d that was done, and an unstick of it
@@ -361,6 +361,7 @@ module _ (t : AttemptTerms) (l : List Made) (from at : ℕ) (so : Sofar) (calls 
         (λ q last free is. read_now d name span a low high may q last free is)
     by_request (Writes q kind (Ok content)) span a low high told may stands = by_write q kind content span a told may stands
     by_request (Writes q kind (Err part)) span a low high told may stands = silent before (λ d m there writes. absurd (subst (λ c. In m c) (no_calls q kind part a told) there))
+    by_request (Tests truth) span a low high told may stands = silent before (λ d m there writes. in_empty m calls may there)
 
 -- an operation's answer adds to what was noted what its calls have done
 noted_next : (t : AttemptTerms) (l : List Made) (from at n : ℕ) (so : Sofar) (o : Op) (log : OpLog) → OpFollows t l at n so o log → from ≤ at → IsNoted t l from at so → IsNoted t l from log.span.to (noted o log so)

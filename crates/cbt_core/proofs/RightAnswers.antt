@@ -1,5 +1,5 @@
 -- Each answer about a document is right, and the moments of a client's answers rise.
-use Rattle.std.proofs.Common.{◌≡◌, ◌≢◌, ℕ, suc, ◌<◌, ◌≤◌, true, nat_le, nat_lt, ◌&&◌, List, [], ◌∷◌, ◌++◌, length, slice_get, Option, Some, None, Result, Ok, Err, refl, sym, ap, ◌∙◌, subst, arith}
+use Rattle.std.proofs.Common.{◌≡◌, ◌≢◌, ℕ, suc, ◌<◌, ◌≤◌, Bool, true, nat_le, nat_lt, ◌&&◌, List, [], ◌∷◌, ◌++◌, length, slice_get, Option, Some, None, Result, Ok, Err, refl, sym, ap, ◌∙◌, subst, arith}
 use Rattle.std.proofs.lemmas.Grind.{common_steps}
 use Rattle.std.proofs.lemmas.Map.Keys.{IsStrictlyIncreasing-from_sorted}
 use Rattle.std.proofs.lemmas.Option.{none-some}
@@ -10,7 +10,7 @@ use Rattle.std.specs.Option.{option_to_list}
 use Rattle.std.specs.Ordering.{nat_cmp}
 use Rattle.std.specs.declared.cmp.Ordering.TheVariants.{Less}
 use Rattle.cbt_json.specs.declared.value.Json.{Json}
-use Rattle.cbt_expr.specs.Values.{value_of}
+use Rattle.cbt_expr.specs.Values.{value_of, truth_of}
 use Rattle.cbt_expr.specs.declared.plans.Op.{Op}
 use Rattle.cbt_expr.specs.declared.plans.Op.TheVariants as op
 use Rattle.cbt_expr.specs.declared.plans.TxnPlan.{TxnPlan}
@@ -34,7 +34,7 @@ use Rattle.cbt_book.specs.declared.operations.When.TheVariants as when
 use Rattle.cbt_core.specs.Clients.{TxnsFollow, txns_end}
 use Rattle.cbt_core.specs.Committed.{table_after, table_at}
 use Rattle.cbt_core.specs.Walk.{AttemptTerms, Sofar, Writes, request_of, content_of, noted, nothing_yet}
-use Rattle.cbt_core.specs.OpAnswers.{Answered, GetAnswered, WriteAnswered, IsBadValue, ReadsAt}
+use Rattle.cbt_core.specs.OpAnswers.{Answered, GetAnswered, WriteAnswered, IsBadValue, TestAnswered, ReadsAt}
 use Rattle.cbt_core.specs.Operations.{OpsFollow, ops_end}
 use Rattle.cbt_core.specs.Right.{IsAnswer, IsRightWhen, doc_of, read_when, moment_at, moments_of}
 use Rattle.cbt_core.specs.Runs.{IsLegalRun, LogsFollow, own_of}
@@ -148,6 +148,12 @@ module _ (case : Case) (book : Book) (legal : IsLegalRun case book) (follow : Lo
     right_bad so d part_no answer.Holds told = tt
     right_bad so d part_no answer.NeedFalse told = tt
 
+    right_test : (so : Sofar) (d : List ℕ) (truth : Result Bool ℕ) (a : OpAnswer) → TestAnswered truth a → IsRightWhen case book so d span a (read_when a)
+    right_test so d truth answer.Holds told = tt
+    right_test so d truth answer.NeedFalse told = tt
+    right_test so d truth (answer.BadValue part_no) told = tt
+    right_test so d truth _ told = absurd told
+
     by_value : (t : AttemptTerms) (so : Sofar) (d : List ℕ) (kind : OpKind) (v : Result Json ℕ) (a : OpAnswer) → Answered t (own_of book client) so (Writes d kind (content_of v)) calls a
         → IsRightWhen case book so d span a (read_when a)
     by_value t so d kind (Ok value) a told = right_write t so d kind (Some value) a told
@@ -158,6 +164,7 @@ module _ (case : Case) (book : Book) (legal : IsLegalRun case book) (follow : Lo
     right_by t so (op.Insert d value) a told = by_value t so d Insert (value_of so.bound value) a told
     right_by t so (op.Replace d value) a told = by_value t so d Replace (value_of so.bound value) a told
     right_by t so (op.Remove d) a told = right_write t so d Remove None a told
+    right_by t so (op.Need cond) a told = right_test so [] (truth_of so.bound cond) a told
 
   pub answers_right : (client txn try_no n : ℕ) (o : Op) (log : OpLog) (so : Sofar) → IsAnswer case book client txn try_no n o log so → IsRightWhen case book so (doc_of o) log.span log.answer (read_when log.answer)
   answers_right client txn try_no n o log so it =

@@ -52,7 +52,7 @@ use Rattle.cbt_core.specs.Walk.{AttemptTerms, Sofar, Writes, request_of, content
 use Rattle.cbt_core.specs.WriteSets.{numbered, plan_at, plan_of, write_set}
 use Rattle.cbt_core.specs.declared.case.Case.{Case}
 use Rattle.cbt_core.proofs.Answers.{done_told}
-use Rattle.cbt_core.proofs.Calls.{during_in, Within, each_of, some_call, filter_in}
+use Rattle.cbt_core.proofs.Calls.{during_in, Within, each_of, some_call, filter_in, in_empty}
 use Rattle.cbt_core.proofs.Commits.{Wrote, wrote, wrote_not, wrote_as, it as attempt_it, here as commit_inside, no_late_write, owned_call, inside_of, Inside, staging, done_in_ops}
 use Rattle.cbt_core.proofs.Decisions.{at_decision, is_commit, commits_is, closed_at, closed-decided, commit}
 use Rattle.cbt_core.proofs.Documents.{doc_then, after_stage, DocGoes, stays, is_staged_new, is_staged, is_unstaged, doc_goes, doc_later, same_at_cas, same_between}
@@ -130,6 +130,7 @@ module _ (t : AttemptTerms) (l : List Made) (so : Sofar) (span : Span) (place mo
   staged_over (op.Insert d value) told = by_value d Insert (value_of so.bound value) told
   staged_over (op.Replace d value) told = by_value d Replace (value_of so.bound value) told
   staged_over (op.Remove d) told = by_staging_over d Remove None told
+  staged_over (op.Need cond) told = absurd told
 
 -- an operation unsticks its own document alone
 unsticks_own_doc : (t : AttemptTerms) (bound : List ℕ → Option Json) (o : Op) (calls : List Made) (m : Made) (d : List ℕ) (x : ℕ) → OpCalls t (request_of bound o) calls → In m calls → m.step ≡ step.Unstick d x → doc_of o ≡ d
@@ -137,6 +138,7 @@ unsticks_own_doc t bound (op.Get q name) calls m d x may there is = absurd (subs
 unsticks_own_doc t bound (op.Insert q value) calls m d x may there is = sym (subst (λ st. MayWrite t q st) is (each_of (λ y. MayWrite t q y.step) calls m may.only there))
 unsticks_own_doc t bound (op.Replace q value) calls m d x may there is = sym (subst (λ st. MayWrite t q st) is (each_of (λ y. MayWrite t q y.step) calls m may.only there))
 unsticks_own_doc t bound (op.Remove q) calls m d x may there is = sym (subst (λ st. MayWrite t q st) is (each_of (λ y. MayWrite t q y.step) calls m may.only there))
+unsticks_own_doc t bound (op.Need cond) calls m d x may there is = absurd (in_empty m calls may there)
 
 module _ (s0 : State) (h : List Event) (lawful : Lawful s0 h) where
   -- what a staging that took effect found

@@ -1,5 +1,5 @@
 -- The answers that an operation can have, and what each stands on.
-use Rattle.std.specs.Prelude.{◌≡◌, ◌≢◌, ℕ, suc, ◌⊎◌, Bool, true, false, is_some, is_none, List, [], ◌∷◌, ◌++◌, length, Option, Some, None, Ok, Err}
+use Rattle.std.specs.Prelude.{◌≡◌, ◌≢◌, ℕ, suc, ◌⊎◌, Bool, true, false, is_some, is_none, List, [], ◌∷◌, ◌++◌, length, Option, Some, None, Result, Ok, Err}
 use Rattle.cbt_json.specs.declared.value.Json.{Json}
 use Rattle.cbt_model.specs.History.{is_done}
 use Rattle.cbt_model.specs.declared.documents.OpKind.{OpKind}
@@ -21,7 +21,7 @@ use Rattle.cbt_book.specs.declared.operations.OpAnswer.{OpAnswer}
 use Rattle.cbt_book.specs.declared.operations.OpAnswer.TheVariants as answer
 use Rattle.cbt_book.specs.declared.operations.When.{When}
 use Rattle.cbt_book.specs.declared.operations.When.TheVariants as when
-use Rattle.cbt_core.specs.Walk.{AttemptTerms, Sofar, OwnWrite, LastRead, Request, Reads, Writes, kind_over, own_kind}
+use Rattle.cbt_core.specs.Walk.{AttemptTerms, Sofar, OwnWrite, LastRead, Request, Reads, Writes, Tests, kind_over, own_kind}
 
 -- an insert wants no value, a replace and a remove want one
 abbrev pub agrees : OpKind → Option Json → Bool
@@ -178,8 +178,16 @@ abbrev pub IsBadValue : ℕ → List Made → OpAnswer → Type 0
 IsBadValue part calls (answer.BadValue named) = (named ≡ part) × (calls ≡ [])
 IsBadValue part calls _ = ⊥
 
+-- a test is answered by whether its condition holds, or by the part of it that has no value
+abbrev pub TestAnswered : Result Bool ℕ → OpAnswer → Type 0
+TestAnswered truth answer.Holds = truth ≡ Ok true
+TestAnswered truth answer.NeedFalse = truth ≡ Ok false
+TestAnswered truth (answer.BadValue part) = truth ≡ Err part
+TestAnswered truth _ = ⊥
+
 -- an operation's answer is one that it can have, with its cause
 abbrev pub Answered : AttemptTerms → List Made → Sofar → Request → List Made → OpAnswer → Type 0
 Answered t l so (Reads d name) calls a = GetAnswered so d calls a
 Answered t l so (Writes d kind (Ok content)) calls a = WriteAnswered t l so d kind content calls a
 Answered t l so (Writes d kind (Err part)) calls a = IsBadValue part calls a
+Answered t l so (Tests truth) calls a = TestAnswered truth a

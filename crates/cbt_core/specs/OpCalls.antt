@@ -8,7 +8,7 @@ use Rattle.cbt_model.specs.declared.steps.Reply.TheVariants as reply
 use Rattle.cbt_model.specs.declared.steps.Step.{Step}
 use Rattle.cbt_model.specs.declared.steps.Step.TheVariants as step
 use Rattle.cbt_book.specs.OwnLists.{Once, Each}
-use Rattle.cbt_core.specs.Walk.{AttemptTerms, Request, Reads, Writes}
+use Rattle.cbt_core.specs.Walk.{AttemptTerms, Request, Reads, Writes, Tests}
 
 -- whether a step reads a document
 abbrev pub reads_doc : Step → Bool
@@ -94,7 +94,8 @@ pub record WriteCalls (t : AttemptTerms) (d : List ℕ) (calls : List Made) : Ty
   pub added : count_by (λ m. adds_entry m.step) calls ≤ 1
   pub written_last : Each (λ m before. ¬ Once (λ n _. writes_doc n.step ≡ true) before) calls
 
--- the calls of an operation that asks for this
+-- the calls of an operation that asks for this; a test makes none
 abbrev pub OpCalls : AttemptTerms → Request → List Made → Type 0
 OpCalls t (Reads d name) calls = GetCalls d calls
 OpCalls t (Writes d kind content) calls = WriteCalls t d calls
+OpCalls t (Tests truth) calls = calls ≡ []

@@ -1,5 +1,5 @@
 -- When an answer about a document is right, and the moments of a client's answers.
-use Rattle.std.specs.Prelude.{◌≡◌, ◌≢◌, ℕ, suc, ◌-◌, true, List, take, Option, Some, None}
+use Rattle.std.specs.Prelude.{◌≡◌, ◌≢◌, ℕ, suc, ◌-◌, true, List, [], take, Option, Some, None}
 use Rattle.std.specs.List.{filter_map, flat_map}
 use Rattle.std.specs.List.Sorted.{IsStrictlyIncreasing}
 use Rattle.cbt_json.specs.declared.value.Json.{Json}
@@ -22,12 +22,13 @@ use Rattle.cbt_core.specs.Walk.{Sofar, nothing_yet, walked}
 use Rattle.cbt_core.specs.WriteSets.{numbered, plan_at, attempt_at, write_set}
 use Rattle.cbt_core.specs.declared.case.Case.{Case}
 
--- the document that an operation is about
+-- the document that an operation is about; a test is about none, and no document has this id
 abbrev pub doc_of : Op → List ℕ
 doc_of (op.Get d name) = d
 doc_of (op.Insert d value) = d
 doc_of (op.Replace d value) = d
 doc_of (op.Remove d) = d
+doc_of (op.Need cond) = []
 
 -- an answer that tells a value agrees with this one, or with none
 abbrev pub Tells : OpAnswer → Option Json → Type 0

@@ -1,8 +1,8 @@
 -- What the answers to an attempt's operations add up to, taken in their order.
-use Rattle.std.specs.Prelude.{ℕ, if◌then◌else◌, List, ◌∷◌, Option, Some, None, Result, Ok, Err}
+use Rattle.std.specs.Prelude.{ℕ, Bool, if◌then◌else◌, List, ◌∷◌, Option, Some, None, Result, Ok, Err}
 use Rattle.std.specs.Ordering.{is_eq}
 use Rattle.cbt_json.specs.declared.value.Json.{Json}
-use Rattle.cbt_expr.specs.Values.{value_of}
+use Rattle.cbt_expr.specs.Values.{value_of, truth_of}
 use Rattle.cbt_expr.specs.declared.plans.Op.{Op}
 use Rattle.cbt_expr.specs.declared.plans.Op.TheVariants as op
 use Rattle.cbt_expr.specs.declared.plans.TxnPlan.{TxnPlan}
@@ -49,11 +49,12 @@ pub record Sofar : Type 0 where
 abbrev pub nothing_yet : Sofar
 nothing_yet = record { bound = λ name. None; own = λ d. None; read = λ d. None }
 
--- what an operation asks for: a document's value under a name, or a write with this content; an error is the number of the part
--- of its expression that has no value
+-- what an operation asks for: a document's value under a name, a write with this content, or a test with this outcome; an error is
+-- the number of the part of its expression that has no value
 pub data Request : Type 0 where
   Reads : List ℕ → List ℕ → Request
   Writes : List ℕ → OpKind → Result (Option Json) ℕ → Request
+  Tests : Result Bool ℕ → Request
 
 -- the content of a write with this value
 abbrev pub content_of : Result Json ℕ → Result (Option Json) ℕ
@@ -66,6 +67,7 @@ request_of bound (op.Get d name) = Reads d name
 request_of bound (op.Insert d value) = Writes d Insert (content_of (value_of bound value))
 request_of bound (op.Replace d value) = Writes d Replace (content_of (value_of bound value))
 request_of bound (op.Remove d) = Writes d Remove (Ok None)
+request_of bound (op.Need cond) = Tests (truth_of bound cond)
 
 -- the kind of a write over the own write that stands: an inserted document stays inserted, and what is inserted over an own
 -- remove replaces what was there before
@@ -101,6 +103,7 @@ abbrev pub noted_as : Request → Span → OpAnswer → Sofar → Sofar
 noted_as (Reads d name) span a so = noted_get d name span a so
 noted_as (Writes d kind (Ok content)) span a so = noted_write d kind content a so
 noted_as (Writes d kind (Err part)) span a so = so
+noted_as (Tests truth) span a so = so
 
 -- what an answer adds: a get binds its name; a staging sets the own write of its document; an unstaging takes it away, with
 -- what was read
