@@ -177,6 +177,7 @@ module _ (s0 : State) (h : List Event) (lawful : Lawful s0 h) (client : ℕ) whe
     expected = ex;
     tells = tells;
     writes = writes;
+    refusal = vain;
     place = change.place;
     event = change.event;
     after = subst (λ i. i < change.place) (sym i_is) (stood.later change.place change.event change.takes change.touches change.from);

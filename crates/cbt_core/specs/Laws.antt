@@ -39,6 +39,7 @@ use Rattle.cbt_book.specs.declared.operations.Span.{Span}
 use Rattle.cbt_book.specs.declared.operations.When.TheVariants as when
 use Rattle.cbt_core.specs.Committed.{table_at}
 use Rattle.cbt_core.specs.Invariant.{DecidedAt}
+use Rattle.cbt_core.specs.OpAnswers.{is_refusal}
 use Rattle.cbt_core.specs.Right.{IsAnswer, doc_of}
 use Rattle.cbt_core.specs.Walk.{Sofar}
 use Rattle.cbt_core.specs.WriteSets.{numbered, txn_at, attempt_at, write_set}
@@ -95,6 +96,7 @@ pub record MovedInBetween (s0 : State) (h : List Event) (client : ℕ) (d : List
   pub expected : Expect
   pub tells : TellsCas d told expected
   pub writes : expects refused.step ≡ Some (d, expected)
+  pub refusal : is_refusal refused.answer.reply ≡ true
   pub place : ℕ
   pub event : Event
   pub after : told.answer.place < place
