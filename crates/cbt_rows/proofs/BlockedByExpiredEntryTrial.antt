@@ -33,7 +33,9 @@ use Rattle.cbt_core.specs.WriteSets.{numbered}
 use Rattle.cbt_rows.proofs.Fits.{fits-n2}
 use Rattle.cbt_rows.proofs.Named.{found-all, both_numbered, nothing, all_from, own-none, all_numbered, all_planned, one_value, not_me, ◌▸◌, by_number}
 use Rattle.cbt_rows.proofs.Never.{never_of, never_writes, not_third, unfailed, no_bool, different}
+use Rattle.cbt_rows.proofs.Requested.{follows_as, replaces-n2, replaces-n3}
 use Rattle.cbt_rows.specs.Words.{HasValue, doc_a, n, stage_of, lists_of, entry_of}
+use Rattle.cbt_rows.specs.Written.{n_of}
 use Rattle.cbt_rows.specs.BlockedByExpiredEntry.{opening, past_0, past_1, past_3, past_4, past_5, past_6, past_7, history, marks, plans, run_case, book, e1, e2, m0, m1, m2, m3, m4, m5, m6, m7, m8, m9, m10, m11, m12, m13, m14, made_1, made_2, plan_1_1, plan_2_1, client_1, attempt_1_1_1, op_1_1_1_1, client_2, attempt_2_1_1, attempt_2_1_2, op_2_1_1_1, op_2_1_2_1}
 
 own-1 : own_of book 1 ≡ made_1
@@ -133,10 +135,9 @@ licensed actor = by_number IsFor 1 (subst (λ l. IsLicensed (identity_of run_cas
 abbrev txn_1_1-terms : transactions.TxnTerms
 txn_1_1-terms = record { client = 1; number = 1; plan = plan_1_1; atrs = 16 }
 
-op_1_1_1_1-follows : operations.OpFollows (transactions.attempt_terms txn_1_1-terms 1000 1) made_1 0 1 walk.nothing_yet (op.Replace doc_a (record {
-  value = n 2;
-})) op_1_1_1_1
-op_1_1_1_1-follows = record {
+op_1_1_1_1-follows : operations.OpFollows (transactions.attempt_terms txn_1_1-terms 1000 1) made_1 0 1 walk.nothing_yet (op.Replace doc_a (n_of 2))
+    op_1_1_1_1
+op_1_1_1_1-follows = follows_as (replaces-n2 _) (record {
   counted = refl;
   spanned = record { follows = lit≤ tt; next = refl; ends = spans.with_calls m0 m2 (inr (inr (inl refl))) (inl refl) refl refl };
   answered = inl (
@@ -160,7 +161,7 @@ op_1_1_1_1-follows = record {
   stands = ((λ e. ((when.At 0), refl)) ▸ (λ e. tt) ▸ (λ e. tt) ▸ tt);
   failed = (unfailed m2 refl ▸ unfailed m1 refl ▸ unfailed m0 refl ▸ tt);
   in_time = (lit≤ tt ▸ lit≤ tt ▸ lit≤ tt ▸ tt);
-}
+})
 
 attempt_1_1_1-follows : attempts.AttemptFollows (transactions.attempt_terms txn_1_1-terms 1000 1) made_1 0 attempt_1_1_1
 attempt_1_1_1-follows = record {
@@ -201,10 +202,9 @@ client_1-follows = record {
 abbrev txn_2_1-terms : transactions.TxnTerms
 txn_2_1-terms = record { client = 2; number = 1; plan = plan_2_1; atrs = 16 }
 
-op_2_1_1_1-follows : operations.OpFollows (transactions.attempt_terms txn_2_1-terms 21003 1) made_2 0 1 walk.nothing_yet (op.Replace doc_a (record {
-  value = n 3;
-})) op_2_1_1_1
-op_2_1_1_1-follows = record {
+op_2_1_1_1-follows : operations.OpFollows (transactions.attempt_terms txn_2_1-terms 21003 1) made_2 0 1 walk.nothing_yet (op.Replace doc_a (n_of 3))
+    op_2_1_1_1
+op_2_1_1_1-follows = follows_as (replaces-n3 _) (record {
   counted = refl;
   spanned = record { follows = lit≤ tt; next = refl; ends = spans.with_calls m3 m8 (inr (inr (inr (inr (inr (inl refl)))))) (inl refl) refl refl };
   answered = record {
@@ -247,7 +247,7 @@ op_2_1_1_1-follows = record {
   stands = ((λ e. tt) ▸ (λ e. tt) ▸ (λ e. tt) ▸ (λ e. tt) ▸ (λ e. tt) ▸ (λ e. tt) ▸ tt);
   failed = (unfailed m8 refl ▸ unfailed m7 refl ▸ unfailed m6 refl ▸ unfailed m5 refl ▸ unfailed m4 refl ▸ unfailed m3 refl ▸ tt);
   in_time = (lit≤ tt ▸ lit≤ tt ▸ lit≤ tt ▸ lit≤ tt ▸ lit≤ tt ▸ lit≤ tt ▸ tt);
-}
+})
 
 attempt_2_1_1-follows : attempts.AttemptFollows (transactions.attempt_terms txn_2_1-terms 21003 1) made_2 0 attempt_2_1_1
 attempt_2_1_1-follows = record {
@@ -271,10 +271,9 @@ attempt_2_1_1-follows = record {
   );
 }
 
-op_2_1_2_1-follows : operations.OpFollows (transactions.attempt_terms txn_2_1-terms 21003 2) made_2 9 1 walk.nothing_yet (op.Replace doc_a (record {
-  value = n 3;
-})) op_2_1_2_1
-op_2_1_2_1-follows = record {
+op_2_1_2_1-follows : operations.OpFollows (transactions.attempt_terms txn_2_1-terms 21003 2) made_2 9 1 walk.nothing_yet (op.Replace doc_a (n_of 3))
+    op_2_1_2_1
+op_2_1_2_1-follows = follows_as (replaces-n3 _) (record {
   counted = refl;
   spanned = record { follows = lit≤ tt; next = refl; ends = spans.with_calls m9 m14 (inr (inr (inr (inr (inr (inl refl)))))) (inl refl) refl refl };
   answered = record {
@@ -317,7 +316,7 @@ op_2_1_2_1-follows = record {
   stands = ((λ e. tt) ▸ (λ e. tt) ▸ (λ e. tt) ▸ (λ e. tt) ▸ (λ e. tt) ▸ (λ e. tt) ▸ tt);
   failed = (unfailed m14 refl ▸ unfailed m13 refl ▸ unfailed m12 refl ▸ unfailed m11 refl ▸ unfailed m10 refl ▸ unfailed m9 refl ▸ tt);
   in_time = (lit≤ tt ▸ lit≤ tt ▸ lit≤ tt ▸ lit≤ tt ▸ lit≤ tt ▸ lit≤ tt ▸ tt);
-}
+})
 
 attempt_2_1_2-follows : attempts.AttemptFollows (transactions.attempt_terms txn_2_1-terms 21003 2) made_2 9 attempt_2_1_2
 attempt_2_1_2-follows = record {

@@ -36,7 +36,9 @@ use Rattle.cbt_core.specs.WriteSets.{numbered}
 use Rattle.cbt_rows.proofs.Fits.{fits-n2}
 use Rattle.cbt_rows.proofs.Named.{found-all, both_numbered, nothing, all_listed, named, named-abort, all_from, own-none, all_numbered, all_planned, one_value, not_me, ◌▸◌, ◌▹◌, by_number}
 use Rattle.cbt_rows.proofs.Never.{never_of, none_settled, elsewhere, not_vain, done, not_of, never_writes, unfailed, different, never_answered, never_unstuck}
+use Rattle.cbt_rows.proofs.Requested.{follows_as, replaces-n2}
 use Rattle.cbt_rows.specs.Words.{HasValue, doc_a, n, stage_of, lists_of, entry_of}
+use Rattle.cbt_rows.specs.Written.{n_of}
 use Rattle.cbt_rows.specs.CommitIsLostThreeTimes.{opening, past_0, past_1, past_2, past_4, past_6, past_8, past_9, past_10, history, marks, plans, run_case, book, e1, e2, e3, e5, e7, e9, e10, e11, m0, m1, m2, m3, m4, m5, m6, m7, m8, m9, m10, m11, made_1, plan_1_1, client_1, attempt_1_1_1, op_1_1_1_1}
 
 own-1 : own_of book 1 ≡ made_1
@@ -228,10 +230,9 @@ licensed actor = by_number IsFor 1 (subst (λ l. IsLicensed (identity_of run_cas
 abbrev txn_1_1-terms : transactions.TxnTerms
 txn_1_1-terms = record { client = 1; number = 1; plan = plan_1_1; atrs = 16 }
 
-op_1_1_1_1-follows : operations.OpFollows (transactions.attempt_terms txn_1_1-terms 1000 1) made_1 0 1 walk.nothing_yet (op.Replace doc_a (record {
-  value = n 2;
-})) op_1_1_1_1
-op_1_1_1_1-follows = record {
+op_1_1_1_1-follows : operations.OpFollows (transactions.attempt_terms txn_1_1-terms 1000 1) made_1 0 1 walk.nothing_yet (op.Replace doc_a (n_of 2))
+    op_1_1_1_1
+op_1_1_1_1-follows = follows_as (replaces-n2 _) (record {
   counted = refl;
   spanned = record { follows = lit≤ tt; next = refl; ends = spans.with_calls m0 m2 (inr (inr (inl refl))) (inl refl) refl refl };
   answered = inl (
@@ -255,7 +256,7 @@ op_1_1_1_1-follows = record {
   stands = ((λ e. ((when.At 0), refl)) ▸ (λ e. tt) ▸ (λ e. tt) ▸ tt);
   failed = (unfailed m2 refl ▸ unfailed m1 refl ▸ unfailed m0 refl ▸ tt);
   in_time = (lit≤ tt ▸ lit≤ tt ▸ lit≤ tt ▸ tt);
-}
+})
 
 attempt_1_1_1-follows : attempts.AttemptFollows (transactions.attempt_terms txn_1_1-terms 1000 1) made_1 0 attempt_1_1_1
 attempt_1_1_1-follows = record {

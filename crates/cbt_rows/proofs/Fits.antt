@@ -14,7 +14,8 @@ use Rattle.cbt_rows.specs.Words.{n, got}
 one_member : List ℕ → ℕ → Data
 one_member name k = object (member name (number (unsigned k)) no_members)
 
-data-one : (name : List ℕ) (k : ℕ) → data_of (tree.Object ((name, tree.Whole (pos k)) ∷ [])) ≡ object (member name (number (unsigned k)) no_members)
+pub data-one : (name : List ℕ) (k : ℕ) → data_of (tree.Object ((name, tree.Whole (pos k)) ∷ [])) ≡ object (member name (number (unsigned k))
+    no_members)
 data-one name k = data_of-Object ((name, tree.Whole (pos k)) ∷ []) ∙ ap (λ d. object (member name d no_members)) (data_of-Whole (pos k))
 
 fits : (name : List ℕ) (k : ℕ) → length (compact_text (object (member name (number (unsigned k)) no_members))) ≤ 4096

@@ -34,7 +34,9 @@ use Rattle.cbt_core.specs.WriteSets.{numbered}
 use Rattle.cbt_rows.proofs.Fits.{fits-n1, fits-n9}
 use Rattle.cbt_rows.proofs.Named.{found-all, both_numbered, nothing, all_listed, named, all_from, own-none, all_numbered, all_planned, one_value, not_me, ◌▸◌, ◌▹◌, by_number, taken_back}
 use Rattle.cbt_rows.proofs.Never.{never_of, none_settled, done, not_of, never_writes, never_resolved, not_third, unfailed, no_bool, unsticks_own_pf}
+use Rattle.cbt_rows.proofs.Requested.{follows_after, follows_as, inserts-n1, inserts-n9, noted_by, table_by}
 use Rattle.cbt_rows.specs.Words.{HasValue, doc_a, n, stage_of, lists_of}
+use Rattle.cbt_rows.specs.Written.{n_of}
 use Rattle.cbt_rows.specs.InsertTakenBack.{opening, past_0, past_1, past_2, past_3, past_4, past_5, past_6, past_7, past_8, past_10, history, marks, plans, run_case, book, e1, e2, e3, e5, e6, e7, e8, e9, e10, e11, m0, m1, m2, m3, m4, m5, m6, m7, m8, m9, m10, m11, made_1, made_2, plan_1_1, plan_2_1, client_1, attempt_1_1_1, op_1_1_1_1, op_1_1_1_2, client_2, attempt_2_1_1, op_2_1_1_1}
 
 own-1 : own_of book 1 ≡ made_1
@@ -230,10 +232,9 @@ licensed actor = by_number IsFor 1 (subst (λ l. IsLicensed (identity_of run_cas
 abbrev txn_1_1-terms : transactions.TxnTerms
 txn_1_1-terms = record { client = 1; number = 1; plan = plan_1_1; atrs = 1 }
 
-op_1_1_1_1-follows : operations.OpFollows (transactions.attempt_terms txn_1_1-terms 1000 1) made_1 0 1 walk.nothing_yet (op.Insert doc_a (record {
-  value = n 1;
-})) op_1_1_1_1
-op_1_1_1_1-follows = record {
+op_1_1_1_1-follows : operations.OpFollows (transactions.attempt_terms txn_1_1-terms 1000 1) made_1 0 1 walk.nothing_yet (op.Insert doc_a (n_of 1))
+    op_1_1_1_1
+op_1_1_1_1-follows = follows_as (inserts-n1 _) (record {
   counted = refl;
   spanned = record { follows = lit≤ tt; next = refl; ends = spans.with_calls m0 m2 (inr (inr (inl refl))) (inl refl) refl refl };
   answered = inl (
@@ -257,13 +258,11 @@ op_1_1_1_1-follows = record {
   stands = ((λ e. ((when.At 0), refl)) ▸ (λ e. tt) ▸ (λ e. tt) ▸ tt);
   failed = (unfailed m2 refl ▸ unfailed m1 refl ▸ unfailed m0 refl ▸ tt);
   in_time = (lit≤ tt ▸ lit≤ tt ▸ lit≤ tt ▸ tt);
-}
+})
 
-op_1_1_1_2-follows : operations.OpFollows (transactions.attempt_terms txn_1_1-terms 1000 1) made_1 3 2 (walk.noted (op.Insert doc_a (record {
-  value =
-      n 1;
-})) op_1_1_1_1 walk.nothing_yet) (op.Remove doc_a) op_1_1_1_2
-op_1_1_1_2-follows = record {
+op_1_1_1_2-follows : operations.OpFollows (transactions.attempt_terms txn_1_1-terms 1000 1) made_1 3 2 (walk.noted (op.Insert doc_a (n_of 1))
+    op_1_1_1_1 walk.nothing_yet) (op.Remove doc_a) op_1_1_1_2
+op_1_1_1_2-follows = follows_after (noted_by walk.nothing_yet (inserts-n1 doc_a) op_1_1_1_1) (record {
   counted = refl;
   spanned = record { follows = lit≤ tt; next = refl; ends = spans.with_calls m3 m3 (inl refl) (inl refl) refl refl };
   answered = inl (
@@ -282,7 +281,7 @@ op_1_1_1_2-follows = record {
   stands = ((λ e. refl) ▸ tt);
   failed = (unfailed m3 refl ▸ tt);
   in_time = (lit≤ tt ▸ tt);
-}
+})
 
 attempt_1_1_1-follows : attempts.AttemptFollows (transactions.attempt_terms txn_1_1-terms 1000 1) made_1 0 attempt_1_1_1
 attempt_1_1_1-follows = record {
@@ -321,10 +320,9 @@ client_1-follows = record {
 abbrev txn_2_1-terms : transactions.TxnTerms
 txn_2_1-terms = record { client = 2; number = 1; plan = plan_2_1; atrs = 1 }
 
-op_2_1_1_1-follows : operations.OpFollows (transactions.attempt_terms txn_2_1-terms 1004 1) made_2 0 1 walk.nothing_yet (op.Insert doc_a (record {
-  value = n 9;
-})) op_2_1_1_1
-op_2_1_1_1-follows = record {
+op_2_1_1_1-follows : operations.OpFollows (transactions.attempt_terms txn_2_1-terms 1004 1) made_2 0 1 walk.nothing_yet (op.Insert doc_a (n_of 9))
+    op_2_1_1_1
+op_2_1_1_1-follows = follows_as (inserts-n9 _) (record {
   counted = refl;
   spanned = record { follows = lit≤ tt; next = refl; ends = spans.with_calls m4 m6 (inr (inr (inl refl))) (inl refl) refl refl };
   answered = inl (
@@ -348,7 +346,7 @@ op_2_1_1_1-follows = record {
   stands = ((λ e. ((when.At 4), refl)) ▸ (λ e. tt) ▸ (λ e. tt) ▸ tt);
   failed = (unfailed m6 refl ▸ unfailed m5 refl ▸ unfailed m4 refl ▸ tt);
   in_time = (lit≤ tt ▸ lit≤ tt ▸ lit≤ tt ▸ tt);
-}
+})
 
 attempt_2_1_1-follows : attempts.AttemptFollows (transactions.attempt_terms txn_2_1-terms 1004 1) made_2 0 attempt_2_1_1
 attempt_2_1_1-follows = record {
@@ -427,8 +425,8 @@ before-commit = (refl, refl)
 
 pub after-commit : HasValue run_case book 8 doc_a (Some (n 9))
 unfolding row clock_of
-after-commit = (refl, refl)
+after-commit = (refl, table_by (noted_by walk.nothing_yet (inserts-n9 doc_a) op_2_1_1_1) doc_a None)
 
 pub at-end : HasValue run_case book 12 doc_a (Some (n 9))
 unfolding row clock_of
-at-end = (refl, refl)
+at-end = (refl, table_by (noted_by walk.nothing_yet (inserts-n9 doc_a) op_2_1_1_1) doc_a None)

@@ -1,6 +1,8 @@
 pub mod Never
 pub mod Named
 pub mod Fits
+pub mod WrittenValues
+pub mod Requested
 pub mod Needs
 pub mod Readings
 pub mod OneReplaceTrial

@@ -26,7 +26,9 @@ use Rattle.cbt_core.specs.Walk as walk
 use Rattle.cbt_core.specs.WriteSets.{numbered}
 use Rattle.cbt_rows.proofs.Named.{found-all, both_numbered, nothing, named-abort, all_from, own-none, all_numbered, all_planned, one_value, not_me, ◌▸◌, by_number}
 use Rattle.cbt_rows.proofs.Never.{never_of, none_settled, never_writes, not_third, unfailed, no_bool}
+use Rattle.cbt_rows.proofs.Requested.{follows_as, replaces-n2}
 use Rattle.cbt_rows.specs.Words.{HasValue, doc_a, n, lists_of}
+use Rattle.cbt_rows.specs.Written.{n_of}
 use Rattle.cbt_rows.specs.LostEntryIsRolledBack.{opening, past_0, past_1, history, marks, plans, run_case, book, e1, e2, m0, m1, m2, made_1, plan_1_1, client_1, attempt_1_1_1, op_1_1_1_1}
 
 own-1 : own_of book 1 ≡ made_1
@@ -109,10 +111,9 @@ licensed actor = by_number IsFor 1 (subst (λ l. IsLicensed (identity_of run_cas
 abbrev txn_1_1-terms : transactions.TxnTerms
 txn_1_1-terms = record { client = 1; number = 1; plan = plan_1_1; atrs = 16 }
 
-op_1_1_1_1-follows : operations.OpFollows (transactions.attempt_terms txn_1_1-terms 1000 1) made_1 0 1 walk.nothing_yet (op.Replace doc_a (record {
-  value = n 2;
-})) op_1_1_1_1
-op_1_1_1_1-follows = record {
+op_1_1_1_1-follows : operations.OpFollows (transactions.attempt_terms txn_1_1-terms 1000 1) made_1 0 1 walk.nothing_yet (op.Replace doc_a (n_of 2))
+    op_1_1_1_1
+op_1_1_1_1-follows = follows_as (replaces-n2 _) (record {
   counted = refl;
   spanned = record { follows = lit≤ tt; next = refl; ends = spans.with_calls m0 m1 (inr (inl refl)) (inl refl) refl refl };
   answered = record { newest = m1; older = past_0; calls_are = refl; failed = refl; place_is = refl };
@@ -126,7 +127,7 @@ op_1_1_1_1-follows = record {
   stands = ((λ e. tt) ▸ (λ e. tt) ▸ tt);
   failed = ((λ e. refl) ▸ unfailed m0 refl ▸ tt);
   in_time = (lit≤ tt ▸ lit≤ tt ▸ tt);
-}
+})
 
 attempt_1_1_1-follows : attempts.AttemptFollows (transactions.attempt_terms txn_1_1-terms 1000 1) made_1 0 attempt_1_1_1
 attempt_1_1_1-follows = record {

@@ -28,14 +28,17 @@ use Rattle.cbt_core.specs.Attempts.{drops}
 use Rattle.cbt_core.specs.Clients.{FollowsPlan}
 use Rattle.cbt_core.specs.OpAnswers as answers
 use Rattle.cbt_core.specs.Operations as operations
+use Rattle.cbt_core.specs.Committed.{table_at}
 use Rattle.cbt_core.specs.Runs.{IsFresh, own_of, identity_of, IsLegalRun, AreLicensed, LogsFollow, cleaner_plan}
 use Rattle.cbt_core.specs.Transactions as transactions
 use Rattle.cbt_core.specs.Walk as walk
-use Rattle.cbt_core.specs.WriteSets.{numbered}
+use Rattle.cbt_core.specs.WriteSets.{numbered, write_set}
 use Rattle.cbt_rows.proofs.Fits.{fits-n1, fits-n2}
 use Rattle.cbt_rows.proofs.Named.{found-all, both_numbered, nothing, all_listed, named, named-abort, all_from, own-none, all_numbered, all_planned, one_value, not_me, ◌▸◌, ◌▹◌, by_number}
 use Rattle.cbt_rows.proofs.Never.{never_of, none_settled, done, not_of, differ, never_writes, never_resolved, not_third, unfailed, no_bool}
+use Rattle.cbt_rows.proofs.Requested.{follows_as, noted_by, replaces-more-n1, replaces-more-n2, table_by}
 use Rattle.cbt_rows.specs.Words.{HasValue, doc_a, name_x, n, stage_of, lists_of, span_of}
+use Rattle.cbt_rows.specs.Written.{one_more}
 use Rattle.cbt_rows.specs.LostUpdateIsPrevented.{opening, past_0, past_1, past_2, past_3, past_4, past_5, past_7, past_8, past_9, past_11, past_12, past_13, past_14, past_15, history, marks, plans, run_case, book, e2, e3, e4, e5, e6, e7, e8, e9, e10, e12, e13, e14, e15, e16, m0, m1, m2, m3, m4, m5, m6, m7, m8, m9, m10, m11, m12, m13, m14, m15, m16, made_1, made_2, plan_1_1, plan_2_1, client_1, attempt_1_1_1, op_1_1_1_1, op_1_1_1_2, client_2, attempt_2_1_1, attempt_2_1_2, op_2_1_1_1, op_2_1_1_2, op_2_1_2_1, op_2_1_2_2}
 
 own-1 : own_of book 1 ≡ made_1
@@ -61,7 +64,7 @@ fates = all_from (λ i e. e.fate ≡ fate_of run_case.faults e.actor (suc (calls
     refl ▸ refl ▸ refl ▸ refl ▸ refl ▸ refl ▸ refl ▸ refl ▸ refl ▸ refl ▸ refl ▸ refl ▸ tt)
 
 fitting : (i : ℕ) (e : Event) → slice_get history i ≡ Some e → step_fits e.step ≡ true
-fitting = all_from (λ i e. step_fits e.step ≡ true) history (refl ▸ refl ▸ refl ▸ fits-n1 ▸ refl ▸ fits-n1 ▸ refl ▸ refl ▸ fits-n2 ▸ refl ▸ refl ▸
+fitting = all_from (λ i e. step_fits e.step ≡ true) history (refl ▸ refl ▸ refl ▸ fits-n1 ▸ refl ▸ fits-n1 ▸ refl ▸ refl ▸ fits-n1 ▸ refl ▸ refl ▸
     refl ▸ refl ▸ fits-n2 ▸ refl ▸ fits-n2 ▸ refl ▸ tt)
 
 readings : (i : ℕ) (e : Event) → slice_get history i ≡ Some e → e.reading ≡ held (line_due (1000, 1) i + ahead_at marks i)
@@ -298,8 +301,8 @@ op_1_1_1_1-follows = record {
 }
 
 op_1_1_1_2-follows : operations.OpFollows (transactions.attempt_terms txn_1_1-terms 1000 1) made_1 1 2 (walk.noted (op.Get doc_a name_x) op_1_1_1_1
-    walk.nothing_yet) (op.Replace doc_a (record { value = n 1 })) op_1_1_1_2
-op_1_1_1_2-follows = record {
+    walk.nothing_yet) (op.Replace doc_a one_more) op_1_1_1_2
+op_1_1_1_2-follows = follows_as (replaces-more-n1 doc_a refl) (record {
   counted = refl;
   spanned = record { follows = lit≤ tt; next = refl; ends = spans.with_calls m2 m3 (inr (inl refl)) (inl refl) refl refl };
   answered = inl (
@@ -332,7 +335,7 @@ op_1_1_1_2-follows = record {
   stands = ((λ e. ((when.At 0), refl)) ▸ (λ e. tt) ▸ tt);
   failed = (unfailed m3 refl ▸ unfailed m2 refl ▸ tt);
   in_time = (lit≤ tt ▸ lit≤ tt ▸ tt);
-}
+})
 
 attempt_1_1_1-follows : attempts.AttemptFollows (transactions.attempt_terms txn_1_1-terms 1000 1) made_1 0 attempt_1_1_1
 attempt_1_1_1-follows = record {
@@ -410,8 +413,8 @@ op_2_1_1_1-follows = record {
 }
 
 op_2_1_1_2-follows : operations.OpFollows (transactions.attempt_terms txn_2_1-terms 1001 1) made_2 2 2 (walk.noted (op.Get doc_a name_x) op_2_1_1_1
-    walk.nothing_yet) (op.Replace doc_a (record { value = n 2 })) op_2_1_1_2
-op_2_1_1_2-follows = record {
+    walk.nothing_yet) (op.Replace doc_a one_more) op_2_1_1_2
+op_2_1_1_2-follows = follows_as (replaces-more-n1 doc_a refl) (record {
   counted = refl;
   spanned = record { follows = lit≤ tt; next = refl; ends = spans.with_calls m7 m8 (inr (inl refl)) (inl refl) refl refl };
   answered = record {
@@ -426,7 +429,7 @@ op_2_1_1_2-follows = record {
         by = None;
         gone = false;
         moment = 1;
-      }) (stage_of (attempt_number 2 1 1) 12 Replace (Some (n 2))) refl (answers.on_earlier (record {
+      }) (stage_of (attempt_number 2 1 1) 12 Replace (Some (n 1))) refl (answers.on_earlier (record {
         span = (span_of 1 2);
         value = Some (n 0);
         moment = 1;
@@ -450,7 +453,7 @@ op_2_1_1_2-follows = record {
   stands = ((λ e. absurd (no_bool (sym e))) ▸ (λ e. tt) ▸ tt);
   failed = (unfailed m8 refl ▸ unfailed m7 refl ▸ tt);
   in_time = (lit≤ tt ▸ lit≤ tt ▸ tt);
-}
+})
 
 attempt_2_1_1-follows : attempts.AttemptFollows (transactions.attempt_terms txn_2_1-terms 1001 1) made_2 0 attempt_2_1_1
 attempt_2_1_1-follows = record {
@@ -493,8 +496,8 @@ op_2_1_2_1-follows = record {
 }
 
 op_2_1_2_2-follows : operations.OpFollows (transactions.attempt_terms txn_2_1-terms 1001 2) made_2 12 2 (walk.noted (op.Get doc_a name_x) op_2_1_2_1
-    walk.nothing_yet) (op.Replace doc_a (record { value = n 2 })) op_2_1_2_2
-op_2_1_2_2-follows = record {
+    walk.nothing_yet) (op.Replace doc_a one_more) op_2_1_2_2
+op_2_1_2_2-follows = follows_as (replaces-more-n2 doc_a refl) (record {
   counted = refl;
   spanned = record { follows = lit≤ tt; next = refl; ends = spans.with_calls m12 m13 (inr (inl refl)) (inl refl) refl refl };
   answered = inl (
@@ -527,7 +530,7 @@ op_2_1_2_2-follows = record {
   stands = ((λ e. ((when.At 11), refl)) ▸ (λ e. tt) ▸ tt);
   failed = (unfailed m13 refl ▸ unfailed m12 refl ▸ tt);
   in_time = (lit≤ tt ▸ lit≤ tt ▸ tt);
-}
+})
 
 attempt_2_1_2-follows : attempts.AttemptFollows (transactions.attempt_terms txn_2_1-terms 1001 2) made_2 11 attempt_2_1_2
 attempt_2_1_2-follows = record {
@@ -606,8 +609,16 @@ follow = record {
 
 pub after-first : HasValue run_case book 5 doc_a (Some (n 1))
 unfolding row clock_of
-after-first = (refl, refl)
+after-first = (
+  refl,
+  table_by (noted_by (walk.noted (op.Get doc_a name_x) op_1_1_1_1 walk.nothing_yet) (replaces-more-n1 doc_a refl) op_1_1_1_2)
+      doc_a (Some (n 0)),
+)
 
 pub after-second : HasValue run_case book 15 doc_a (Some (n 2))
 unfolding row clock_of
-after-second = (refl, refl)
+after-second = (
+  refl,
+  table_by (noted_by (walk.noted (op.Get doc_a name_x) op_2_1_2_1 walk.nothing_yet) (replaces-more-n2 doc_a refl) op_2_1_2_2)
+      doc_a (table_at (write_set run_case.plans book.clients) opening history 14 doc_a),
+)

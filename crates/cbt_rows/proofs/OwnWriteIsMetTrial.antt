@@ -1,5 +1,5 @@
 -- A client gets what it has inserted, and cannot insert it again.
-use Rattle.std.proofs.Common.{◌≡◌, ◌≢◌, ℕ, suc, true, false, ◌==◌, inl, inr, [], ◌∷◌, length, Some, None, refl, sym, subst, lit≤, lit<, slice_get, ◌+◌, ◌<◌, ◌≤◌, ◌^◌}
+use Rattle.std.proofs.Common.{◌≡◌, ◌≢◌, ℕ, suc, true, false, ◌==◌, inl, inr, [], ◌∷◌, length, Some, None, refl, sym, ap, subst, lit≤, lit<, slice_get, ◌+◌, ◌<◌, ◌≤◌, ◌^◌}
 use Rattle.std.specs.List.Sorted.{IsStrictlySortedBy}
 use Rattle.cbt_base.specs.Clock.{clock_of}
 use Rattle.cbt_base.specs.Ids.{attempt_number}
@@ -35,7 +35,9 @@ use Rattle.cbt_core.specs.WriteSets.{numbered}
 use Rattle.cbt_rows.proofs.Fits.{fits-n1}
 use Rattle.cbt_rows.proofs.Named.{found-all, both_numbered, nothing, all_listed, named-abort, all_from, own-none, all_numbered, all_planned, one_value, not_me, ◌▸◌, ◌▹◌, by_number}
 use Rattle.cbt_rows.proofs.Never.{never_of, none_settled, not_of, never_writes, not_third, unfailed, no_bool, never_unstuck}
+use Rattle.cbt_rows.proofs.Requested.{follows_after, follows_as, inserts-n1, inserts-n2, noted_by}
 use Rattle.cbt_rows.specs.Words.{HasValue, doc_a, name_x, n, stage_of, lists_of}
+use Rattle.cbt_rows.specs.Written.{n_of}
 use Rattle.cbt_rows.specs.OwnWriteIsMet.{opening, past_0, past_1, past_2, past_3, past_4, history, marks, plans, run_case, book, e1, e2, e3, e4, e5, m0, m1, m2, m3, m4, m5, made_1, plan_1_1, client_1, attempt_1_1_1, op_1_1_1_1, op_1_1_1_2, op_1_1_1_3}
 
 own-1 : own_of book 1 ≡ made_1
@@ -158,10 +160,9 @@ licensed actor = by_number IsFor 1 (subst (λ l. IsLicensed (identity_of run_cas
 abbrev txn_1_1-terms : transactions.TxnTerms
 txn_1_1-terms = record { client = 1; number = 1; plan = plan_1_1; atrs = 16 }
 
-op_1_1_1_1-follows : operations.OpFollows (transactions.attempt_terms txn_1_1-terms 1000 1) made_1 0 1 walk.nothing_yet (op.Insert doc_a (record {
-  value = n 1;
-})) op_1_1_1_1
-op_1_1_1_1-follows = record {
+op_1_1_1_1-follows : operations.OpFollows (transactions.attempt_terms txn_1_1-terms 1000 1) made_1 0 1 walk.nothing_yet (op.Insert doc_a (n_of 1))
+    op_1_1_1_1
+op_1_1_1_1-follows = follows_as (inserts-n1 _) (record {
   counted = refl;
   spanned = record { follows = lit≤ tt; next = refl; ends = spans.with_calls m0 m2 (inr (inr (inl refl))) (inl refl) refl refl };
   answered = inl (
@@ -185,13 +186,11 @@ op_1_1_1_1-follows = record {
   stands = ((λ e. ((when.At 0), refl)) ▸ (λ e. tt) ▸ (λ e. tt) ▸ tt);
   failed = (unfailed m2 refl ▸ unfailed m1 refl ▸ unfailed m0 refl ▸ tt);
   in_time = (lit≤ tt ▸ lit≤ tt ▸ lit≤ tt ▸ tt);
-}
+})
 
-op_1_1_1_2-follows : operations.OpFollows (transactions.attempt_terms txn_1_1-terms 1000 1) made_1 3 2 (walk.noted (op.Insert doc_a (record {
-  value =
-      n 1;
-})) op_1_1_1_1 walk.nothing_yet) (op.Get doc_a name_x) op_1_1_1_2
-op_1_1_1_2-follows = record {
+op_1_1_1_2-follows : operations.OpFollows (transactions.attempt_terms txn_1_1-terms 1000 1) made_1 3 2 (walk.noted (op.Insert doc_a (n_of 1))
+    op_1_1_1_1 walk.nothing_yet) (op.Get doc_a name_x) op_1_1_1_2
+op_1_1_1_2-follows = follows_after (noted_by walk.nothing_yet (inserts-n1 doc_a) op_1_1_1_1) (record {
   counted = refl;
   spanned = record { follows = lit≤ tt; next = refl; ends = spans.without_calls refl refl };
   answered = (record { kind = Insert; content = Some (n 1); place = 2 }, refl, refl);
@@ -199,19 +198,20 @@ op_1_1_1_2-follows = record {
   stands = tt;
   failed = tt;
   in_time = tt;
-}
+})
 
 op_1_1_1_3-follows : operations.OpFollows (transactions.attempt_terms txn_1_1-terms 1000 1) made_1 3 3 (walk.noted (op.Get doc_a name_x) op_1_1_1_2
-    (walk.noted (op.Insert doc_a (record { value = n 1 })) op_1_1_1_1 walk.nothing_yet)) (op.Insert doc_a (record { value = n 2 })) op_1_1_1_3
-op_1_1_1_3-follows = record {
-  counted = refl;
-  spanned = record { follows = lit≤ tt; next = refl; ends = spans.without_calls refl refl };
-  answered = (refl, (n 1, (record { kind = Insert; content = Some (n 1); place = 2 }, refl, refl)));
-  calls = record { only = tt; readings = lit≤ tt; entries = lit≤ tt; added = lit≤ tt; written_last = tt };
-  stands = tt;
-  failed = tt;
-  in_time = tt;
-}
+    (walk.noted (op.Insert doc_a (n_of 1)) op_1_1_1_1 walk.nothing_yet)) (op.Insert doc_a (n_of 2)) op_1_1_1_3
+op_1_1_1_3-follows = follows_after (ap (walk.noted (op.Get doc_a name_x) op_1_1_1_2) (noted_by walk.nothing_yet (inserts-n1 doc_a) op_1_1_1_1))
+    (follows_as (inserts-n2 _) (record {
+      counted = refl;
+      spanned = record { follows = lit≤ tt; next = refl; ends = spans.without_calls refl refl };
+      answered = (refl, (n 1, (record { kind = Insert; content = Some (n 1); place = 2 }, refl, refl)));
+      calls = record { only = tt; readings = lit≤ tt; entries = lit≤ tt; added = lit≤ tt; written_last = tt };
+      stands = tt;
+      failed = tt;
+      in_time = tt;
+    }))
 
 attempt_1_1_1-follows : attempts.AttemptFollows (transactions.attempt_terms txn_1_1-terms 1000 1) made_1 0 attempt_1_1_1
 attempt_1_1_1-follows = record {

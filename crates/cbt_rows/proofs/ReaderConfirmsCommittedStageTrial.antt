@@ -27,14 +27,17 @@ use Rattle.cbt_core.specs.Attempts.{drops}
 use Rattle.cbt_core.specs.Clients.{FollowsPlan}
 use Rattle.cbt_core.specs.OpAnswers as answers
 use Rattle.cbt_core.specs.Operations as operations
+use Rattle.cbt_core.specs.Committed.{table_at}
 use Rattle.cbt_core.specs.Runs.{IsFresh, own_of, identity_of, IsLegalRun, AreLicensed, LogsFollow, cleaner_plan}
 use Rattle.cbt_core.specs.Transactions as transactions
 use Rattle.cbt_core.specs.Walk as walk
-use Rattle.cbt_core.specs.WriteSets.{numbered}
+use Rattle.cbt_core.specs.WriteSets.{numbered, write_set}
 use Rattle.cbt_rows.proofs.Fits.{fits-n2, fits-got2}
 use Rattle.cbt_rows.proofs.Named.{found-all, both_numbered, nothing, all_listed, named, all_from, own-none, all_numbered, all_planned, one_value, not_me, ◌▸◌, ◌▹◌, by_number}
 use Rattle.cbt_rows.proofs.Never.{never_of, none_settled, done, not_of, never_writes, never_resolved, not_third, unfailed, no_bool}
+use Rattle.cbt_rows.proofs.Requested.{follows_as, inserts-got2, noted_by, replaces-n2, table_by}
 use Rattle.cbt_rows.specs.Words.{HasValue, doc_a, doc_seen, name_x, n, got, stage_of, lists_of}
+use Rattle.cbt_rows.specs.Written.{got_x, n_of}
 use Rattle.cbt_rows.specs.ReaderConfirmsCommittedStage.{opening, past_0, past_1, past_2, past_4, past_5, past_9, past_10, past_11, past_12, past_13, history, marks, plans, run_case, book, e1, e2, e4, e5, e6, e10, e11, e12, e13, e14, m0, m1, m2, m3, m4, m5, m6, m7, m8, m9, m10, m11, m12, m13, m14, made_1, made_2, plan_1_1, plan_2_1, client_1, attempt_1_1_1, op_1_1_1_1, client_2, attempt_2_1_1, op_2_1_1_1, op_2_1_1_2}
 
 own-1 : own_of book 1 ≡ made_1
@@ -242,10 +245,9 @@ licensed actor = by_number IsFor 1 (subst (λ l. IsLicensed (identity_of run_cas
 abbrev txn_1_1-terms : transactions.TxnTerms
 txn_1_1-terms = record { client = 1; number = 1; plan = plan_1_1; atrs = 1 }
 
-op_1_1_1_1-follows : operations.OpFollows (transactions.attempt_terms txn_1_1-terms 1000 1) made_1 0 1 walk.nothing_yet (op.Replace doc_a (record {
-  value = n 2;
-})) op_1_1_1_1
-op_1_1_1_1-follows = record {
+op_1_1_1_1-follows : operations.OpFollows (transactions.attempt_terms txn_1_1-terms 1000 1) made_1 0 1 walk.nothing_yet (op.Replace doc_a (n_of 2))
+    op_1_1_1_1
+op_1_1_1_1-follows = follows_as (replaces-n2 _) (record {
   counted = refl;
   spanned = record { follows = lit≤ tt; next = refl; ends = spans.with_calls m0 m2 (inr (inr (inl refl))) (inl refl) refl refl };
   answered = inl (
@@ -269,7 +271,7 @@ op_1_1_1_1-follows = record {
   stands = ((λ e. ((when.At 0), refl)) ▸ (λ e. tt) ▸ (λ e. tt) ▸ tt);
   failed = (unfailed m2 refl ▸ unfailed m1 refl ▸ unfailed m0 refl ▸ tt);
   in_time = (lit≤ tt ▸ lit≤ tt ▸ lit≤ tt ▸ tt);
-}
+})
 
 attempt_1_1_1-follows : attempts.AttemptFollows (transactions.attempt_terms txn_1_1-terms 1000 1) made_1 0 attempt_1_1_1
 attempt_1_1_1-follows = record {
@@ -347,8 +349,8 @@ op_2_1_1_1-follows = record {
 }
 
 op_2_1_1_2-follows : operations.OpFollows (transactions.attempt_terms txn_2_1-terms 1003 1) made_2 9 2 (walk.noted (op.Get doc_a name_x) op_2_1_1_1
-    walk.nothing_yet) (op.Insert doc_seen (record { value = got 2 })) op_2_1_1_2
-op_2_1_1_2-follows = record {
+    walk.nothing_yet) (op.Insert doc_seen got_x) op_2_1_1_2
+op_2_1_1_2-follows = follows_as (inserts-got2 doc_seen refl) (record {
   counted = refl;
   spanned = record { follows = lit≤ tt; next = refl; ends = spans.with_calls m9 m11 (inr (inr (inl refl))) (inl refl) refl refl };
   answered = inl (
@@ -372,7 +374,7 @@ op_2_1_1_2-follows = record {
   stands = ((λ e. ((when.At 9), refl)) ▸ (λ e. tt) ▸ (λ e. tt) ▸ tt);
   failed = (unfailed m11 refl ▸ unfailed m10 refl ▸ unfailed m9 refl ▸ tt);
   in_time = (lit≤ tt ▸ lit≤ tt ▸ lit≤ tt ▸ tt);
-}
+})
 
 attempt_2_1_1-follows : attempts.AttemptFollows (transactions.attempt_terms txn_2_1-terms 1003 1) made_2 0 attempt_2_1_1
 attempt_2_1_1-follows = record {
@@ -455,8 +457,12 @@ before-commit = (refl, refl)
 
 pub at-moment : HasValue run_case book 9 doc_a (Some (n 2))
 unfolding row clock_of
-at-moment = (refl, refl)
+at-moment = (refl, table_by (noted_by walk.nothing_yet (replaces-n2 doc_a) op_1_1_1_1) doc_a (Some (n 1)))
 
 pub after-insert : HasValue run_case book 13 doc_seen (Some (got 2))
 unfolding row clock_of
-after-insert = (refl, refl)
+after-insert = (
+  refl,
+  table_by (noted_by (walk.noted (op.Get doc_a name_x) op_2_1_1_1 walk.nothing_yet) (inserts-got2 doc_seen refl) op_2_1_1_2)
+      doc_seen (table_at (write_set run_case.plans book.clients) opening history 12 doc_seen),
+)

@@ -27,7 +27,9 @@ use Rattle.cbt_core.specs.Walk as walk
 use Rattle.cbt_core.specs.WriteSets.{numbered}
 use Rattle.cbt_rows.proofs.Named.{found-all, both_numbered, nothing, all_from, own-none, all_numbered, all_planned, one_value, not_me, ◌▸◌, by_number}
 use Rattle.cbt_rows.proofs.Never.{never_of, never_writes, not_third, unfailed, no_bool, not_insert}
-use Rattle.cbt_rows.specs.Words.{HasValue, doc_z, n}
+use Rattle.cbt_rows.proofs.Requested.{follows_as, replaces-n1}
+use Rattle.cbt_rows.specs.Words.{HasValue, doc_z}
+use Rattle.cbt_rows.specs.Written.{n_of}
 use Rattle.cbt_rows.specs.ReplaceOfMissingDocument.{opening, history, marks, plans, run_case, book, m0, made_1, plan_1_1, client_1, attempt_1_1_1, op_1_1_1_1}
 
 own-1 : own_of book 1 ≡ made_1
@@ -98,10 +100,9 @@ licensed actor = by_number IsFor 1 (subst (λ l. IsLicensed (identity_of run_cas
 abbrev txn_1_1-terms : transactions.TxnTerms
 txn_1_1-terms = record { client = 1; number = 1; plan = plan_1_1; atrs = 16 }
 
-op_1_1_1_1-follows : operations.OpFollows (transactions.attempt_terms txn_1_1-terms 1000 1) made_1 0 1 walk.nothing_yet (op.Replace doc_z (record {
-  value = n 1;
-})) op_1_1_1_1
-op_1_1_1_1-follows = record {
+op_1_1_1_1-follows : operations.OpFollows (transactions.attempt_terms txn_1_1-terms 1000 1) made_1 0 1 walk.nothing_yet (op.Replace doc_z (n_of 1))
+    op_1_1_1_1
+op_1_1_1_1-follows = follows_as (replaces-n1 _) (record {
   counted = refl;
   spanned = record { follows = lit≤ tt; next = refl; ends = spans.with_calls m0 m0 (inl refl) (inl refl) refl refl };
   answered = (
@@ -118,7 +119,7 @@ op_1_1_1_1-follows = record {
   stands = ((λ e. tt) ▸ tt);
   failed = (unfailed m0 refl ▸ tt);
   in_time = (lit≤ tt ▸ tt);
-}
+})
 
 attempt_1_1_1-follows : attempts.AttemptFollows (transactions.attempt_terms txn_1_1-terms 1000 1) made_1 0 attempt_1_1_1
 attempt_1_1_1-follows = record {

@@ -36,7 +36,9 @@ use Rattle.cbt_core.specs.WriteSets.{numbered}
 use Rattle.cbt_rows.proofs.Fits.{fits-n2}
 use Rattle.cbt_rows.proofs.Named.{found-all, all_in, both_numbered, nothing, all_listed, named, all_from, own-none, all_numbered, all_planned, one_value, not_me, ◌▸◌, ◌▹◌, by_number}
 use Rattle.cbt_rows.proofs.Never.{never_of, none_settled, elsewhere, not_vain, done, not_of, differ, never_writes, never_resolved, not_third, unfailed, no_bool}
+use Rattle.cbt_rows.proofs.Requested.{follows_after, follows_as, noted_by, replaces-n2, table_by, then_noted}
 use Rattle.cbt_rows.specs.Words.{HasValue, doc_a, doc_b, n, stage_of, lists_of, entry_of}
+use Rattle.cbt_rows.specs.Written.{n_of}
 use Rattle.cbt_rows.specs.SlowOwnerLosesItsEntry.{opening, past_0, past_1, past_3, past_5, past_7, past_8, past_12, past_13, past_17, past_18, past_19, past_20, past_21, history, marks, plans, run_case, book, e1, e2, e4, e6, e8, e9, e13, e14, e18, e19, e20, e21, e22, m0, m1, m2, m3, m4, m5, m6, m7, m8, m9, m10, m11, m12, m13, m14, m15, m16, m17, m18, m19, m20, m21, m22, made_1, made_2, plan_1_1, client_1, attempt_1_1_1, attempt_1_1_2, op_1_1_1_1, op_1_1_1_2, op_1_1_2_1, op_1_1_2_2, cleaner_1}
 
 own-1 : own_of book 1 ≡ made_1
@@ -291,10 +293,9 @@ licensed actor = by_number IsFor 1 (subst (λ l. IsLicensed (identity_of run_cas
 abbrev txn_1_1-terms : transactions.TxnTerms
 txn_1_1-terms = record { client = 1; number = 1; plan = plan_1_1; atrs = 1 }
 
-op_1_1_1_1-follows : operations.OpFollows (transactions.attempt_terms txn_1_1-terms 1000 1) made_1 0 1 walk.nothing_yet (op.Replace doc_a (record {
-  value = n 2;
-})) op_1_1_1_1
-op_1_1_1_1-follows = record {
+op_1_1_1_1-follows : operations.OpFollows (transactions.attempt_terms txn_1_1-terms 1000 1) made_1 0 1 walk.nothing_yet (op.Replace doc_a (n_of 2))
+    op_1_1_1_1
+op_1_1_1_1-follows = follows_as (replaces-n2 _) (record {
   counted = refl;
   spanned = record { follows = lit≤ tt; next = refl; ends = spans.with_calls m0 m2 (inr (inr (inl refl))) (inl refl) refl refl };
   answered = inl (
@@ -318,13 +319,11 @@ op_1_1_1_1-follows = record {
   stands = ((λ e. ((when.At 0), refl)) ▸ (λ e. tt) ▸ (λ e. tt) ▸ tt);
   failed = (unfailed m2 refl ▸ unfailed m1 refl ▸ unfailed m0 refl ▸ tt);
   in_time = (lit≤ tt ▸ lit≤ tt ▸ lit≤ tt ▸ tt);
-}
+})
 
-op_1_1_1_2-follows : operations.OpFollows (transactions.attempt_terms txn_1_1-terms 1000 1) made_1 3 2 (walk.noted (op.Replace doc_a (record {
-  value
-      = n 2;
-})) op_1_1_1_1 walk.nothing_yet) (op.Replace doc_b (record { value = n 2 })) op_1_1_1_2
-op_1_1_1_2-follows = record {
+op_1_1_1_2-follows : operations.OpFollows (transactions.attempt_terms txn_1_1-terms 1000 1) made_1 3 2 (walk.noted (op.Replace doc_a (n_of 2))
+    op_1_1_1_1 walk.nothing_yet) (op.Replace doc_b (n_of 2)) op_1_1_1_2
+op_1_1_1_2-follows = follows_after (noted_by walk.nothing_yet (replaces-n2 doc_a) op_1_1_1_1) (follows_as (replaces-n2 _) (record {
   counted = refl;
   spanned = record { follows = lit≤ tt; next = refl; ends = spans.with_calls m7 m8 (inr (inl refl)) (inl refl) refl refl };
   answered = inl (
@@ -348,7 +347,7 @@ op_1_1_1_2-follows = record {
   stands = ((λ e. ((when.At 7), refl)) ▸ (λ e. tt) ▸ tt);
   failed = (unfailed m8 refl ▸ unfailed m7 refl ▸ tt);
   in_time = (lit≤ tt ▸ lit≤ tt ▸ tt);
-}
+}))
 
 attempt_1_1_1-follows : attempts.AttemptFollows (transactions.attempt_terms txn_1_1-terms 1000 1) made_1 0 attempt_1_1_1
 attempt_1_1_1-follows = record {
@@ -368,10 +367,9 @@ attempt_1_1_1-follows = record {
   ends = (record { all = refl; good = refl; keep = refl }, inl (refl, refl, refl));
 }
 
-op_1_1_2_1-follows : operations.OpFollows (transactions.attempt_terms txn_1_1-terms 1000 2) made_1 10 1 walk.nothing_yet (op.Replace doc_a (record {
-  value = n 2;
-})) op_1_1_2_1
-op_1_1_2_1-follows = record {
+op_1_1_2_1-follows : operations.OpFollows (transactions.attempt_terms txn_1_1-terms 1000 2) made_1 10 1 walk.nothing_yet (op.Replace doc_a (n_of 2))
+    op_1_1_2_1
+op_1_1_2_1-follows = follows_as (replaces-n2 _) (record {
   counted = refl;
   spanned = record { follows = lit≤ tt; next = refl; ends = spans.with_calls m10 m14 (inr (inr (inr (inr (inl refl))))) (inl refl) refl refl };
   answered = inl (
@@ -409,13 +407,11 @@ op_1_1_2_1-follows = record {
   stands = ((λ e. ((when.At 12), refl)) ▸ (λ e. tt) ▸ (λ e. tt) ▸ (λ e. tt) ▸ (λ e. tt) ▸ tt);
   failed = (unfailed m14 refl ▸ unfailed m13 refl ▸ unfailed m12 refl ▸ unfailed m11 refl ▸ unfailed m10 refl ▸ tt);
   in_time = (lit≤ tt ▸ lit≤ tt ▸ lit≤ tt ▸ lit≤ tt ▸ lit≤ tt ▸ tt);
-}
+})
 
-op_1_1_2_2-follows : operations.OpFollows (transactions.attempt_terms txn_1_1-terms 1000 2) made_1 15 2 (walk.noted (op.Replace doc_a (record {
-  value
-      = n 2;
-})) op_1_1_2_1 walk.nothing_yet) (op.Replace doc_b (record { value = n 2 })) op_1_1_2_2
-op_1_1_2_2-follows = record {
+op_1_1_2_2-follows : operations.OpFollows (transactions.attempt_terms txn_1_1-terms 1000 2) made_1 15 2 (walk.noted (op.Replace doc_a (n_of 2))
+    op_1_1_2_1 walk.nothing_yet) (op.Replace doc_b (n_of 2)) op_1_1_2_2
+op_1_1_2_2-follows = follows_after (noted_by walk.nothing_yet (replaces-n2 doc_a) op_1_1_2_1) (follows_as (replaces-n2 _) (record {
   counted = refl;
   spanned = record { follows = lit≤ tt; next = refl; ends = spans.with_calls m15 m18 (inr (inr (inr (inl refl)))) (inl refl) refl refl };
   answered = inl (
@@ -451,7 +447,7 @@ op_1_1_2_2-follows = record {
   stands = ((λ e. ((when.At 17), refl)) ▸ (λ e. tt) ▸ (λ e. tt) ▸ (λ e. tt) ▸ tt);
   failed = (unfailed m18 refl ▸ unfailed m17 refl ▸ unfailed m16 refl ▸ unfailed m15 refl ▸ tt);
   in_time = (lit≤ tt ▸ lit≤ tt ▸ lit≤ tt ▸ lit≤ tt ▸ tt);
-}
+}))
 
 attempt_1_1_2-follows : attempts.AttemptFollows (transactions.attempt_terms txn_1_1-terms 1000 2) made_1 10 attempt_1_1_2
 attempt_1_1_2-follows = record {
@@ -607,8 +603,12 @@ before-commit = (refl, refl)
 
 pub after-commit : HasValue run_case book 20 doc_a (Some (n 2))
 unfolding row clock_of
-after-commit = (refl, refl)
+after-commit = (
+  refl,
+  table_by (then_noted (noted_by walk.nothing_yet (replaces-n2 doc_a) op_1_1_2_1) (replaces-n2 doc_b) op_1_1_2_2) doc_a (Some (n
+      1)),
+)
 
 pub together : HasValue run_case book 20 doc_b (Some (n 2))
 unfolding row clock_of
-together = (refl, refl)
+together = (refl, table_by (then_noted (noted_by walk.nothing_yet (replaces-n2 doc_a) op_1_1_2_1) (replaces-n2 doc_b) op_1_1_2_2) doc_b (Some (n 1)))

@@ -32,7 +32,9 @@ use Rattle.cbt_core.specs.WriteSets.{numbered}
 use Rattle.cbt_rows.proofs.Fits.{fits-n2}
 use Rattle.cbt_rows.proofs.Named.{found-all, both_numbered, nothing, named, all_from, own-none, all_numbered, all_planned, one_value, not_me, ◌▸◌, ◌▹◌, by_number}
 use Rattle.cbt_rows.proofs.Never.{never_of, none_settled, done, never_writes, not_third, unfailed, no_bool}
+use Rattle.cbt_rows.proofs.Requested.{follows_as, noted_by, replaces-n2, table_by}
 use Rattle.cbt_rows.specs.Words.{HasValue, doc_a, n, stage_of, lists_of}
+use Rattle.cbt_rows.specs.Written.{n_of}
 use Rattle.cbt_rows.specs.StopAfterCommit.{opening, past_0, past_1, past_2, history, marks, plans, run_case, book, e1, e2, e3, m0, m1, m2, m3, made_1, plan_1_1, client_1, attempt_1_1_1, op_1_1_1_1}
 
 own-1 : own_of book 1 ≡ made_1
@@ -131,10 +133,9 @@ licensed actor = by_number IsFor 1 (subst (λ l. IsLicensed (identity_of run_cas
 abbrev txn_1_1-terms : transactions.TxnTerms
 txn_1_1-terms = record { client = 1; number = 1; plan = plan_1_1; atrs = 16 }
 
-op_1_1_1_1-follows : operations.OpFollows (transactions.attempt_terms txn_1_1-terms 1000 1) made_1 0 1 walk.nothing_yet (op.Replace doc_a (record {
-  value = n 2;
-})) op_1_1_1_1
-op_1_1_1_1-follows = record {
+op_1_1_1_1-follows : operations.OpFollows (transactions.attempt_terms txn_1_1-terms 1000 1) made_1 0 1 walk.nothing_yet (op.Replace doc_a (n_of 2))
+    op_1_1_1_1
+op_1_1_1_1-follows = follows_as (replaces-n2 _) (record {
   counted = refl;
   spanned = record { follows = lit≤ tt; next = refl; ends = spans.with_calls m0 m2 (inr (inr (inl refl))) (inl refl) refl refl };
   answered = inl (
@@ -158,7 +159,7 @@ op_1_1_1_1-follows = record {
   stands = ((λ e. ((when.At 0), refl)) ▸ (λ e. tt) ▸ (λ e. tt) ▸ tt);
   failed = (unfailed m2 refl ▸ unfailed m1 refl ▸ unfailed m0 refl ▸ tt);
   in_time = (lit≤ tt ▸ lit≤ tt ▸ lit≤ tt ▸ tt);
-}
+})
 
 attempt_1_1_1-follows : attempts.AttemptFollows (transactions.attempt_terms txn_1_1-terms 1000 1) made_1 0 attempt_1_1_1
 attempt_1_1_1-follows = record {
@@ -218,4 +219,4 @@ before-commit = (refl, refl)
 
 pub at-end : HasValue run_case book 4 doc_a (Some (n 2))
 unfolding row clock_of
-at-end = (refl, refl)
+at-end = (refl, table_by (noted_by walk.nothing_yet (replaces-n2 doc_a) op_1_1_1_1) doc_a (Some (n 1)))

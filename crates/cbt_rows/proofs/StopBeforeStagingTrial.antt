@@ -24,6 +24,7 @@ use Rattle.cbt_core.specs.WriteSets.{numbered}
 use Rattle.cbt_rows.proofs.Named.{found-all, both_numbered, nothing, all_from, own-none, all_numbered, all_planned, one_value, not_me, ◌▸◌, by_number}
 use Rattle.cbt_rows.proofs.Never.{never_of, never_writes, not_third, unfailed, no_bool, filled}
 use Rattle.cbt_rows.specs.Words.{HasValue, doc_a, n}
+use Rattle.cbt_rows.specs.Written.{n_of}
 use Rattle.cbt_rows.specs.StopBeforeStaging.{opening, past_0, past_1, history, marks, plans, run_case, book, e1, m0, m1, made_1, plan_1_1, client_1, attempt_1_1_1}
 
 own-1 : own_of book 1 ≡ made_1
@@ -107,7 +108,7 @@ attempt_1_1_1-follows = record {
   closing = [];
   rest = refl;
   cut_follows = record {
-    next = op.Replace doc_a (record { value = n 2 });
+    next = op.Replace doc_a (n_of 2);
     rest = [];
     left_is = refl;
     good = refl;

@@ -34,6 +34,7 @@ use Rattle.cbt_rows.specs.ReaderBeforeCommit as reader
 use Rattle.cbt_rows.specs.SlowOwnerLosesItsEntry as slow
 use Rattle.cbt_rows.specs.TransactionExpires as expires
 use Rattle.cbt_rows.specs.Words.{doc_a, name_x, n, stage_of, lists_of, entry_of, told, span_of}
+use Rattle.cbt_rows.specs.Written.{n_of}
 
 -- actor 1, a client
 abbrev pub client : Identity
@@ -141,7 +142,7 @@ abbrev pub get_first : Op
 get_first = op.Get doc_a name_x
 
 abbrev pub replace_then : Op
-replace_then = op.Replace doc_a (record { value = n 2 })
+replace_then = op.Replace doc_a (n_of 2)
 
 abbrev pub got_first : OpLog
 got_first = record { op = 1; span = span_of 0 1; answer = answer.Value (Some (n 1)) (when.At 0) }

@@ -27,6 +27,7 @@ use Rattle.cbt_book.specs.declared.operations.OpLog.{OpLog}
 use Rattle.cbt_book.specs.declared.operations.When.TheVariants as when
 use Rattle.cbt_core.specs.declared.case.Case.{Case}
 use Rattle.cbt_rows.specs.Words.{doc_a, n, stage_of, lists_of, entry_of, first_doc, event_of, told, faults_of, span_of}
+use Rattle.cbt_rows.specs.Written.{n_of}
 
 -- the node before the run
 abbrev pub opening : State
@@ -103,7 +104,7 @@ made_2 = past_5
 
 -- what the clients are to do
 abbrev pub plan_1_1 : TxnPlan
-plan_1_1 = record { ops = (op.Replace doc_a (record { value = n 2 })) ∷ []; expiry = 15000; hold = 15000; tries = 8; keep = true }
+plan_1_1 = record { ops = (op.Replace doc_a (n_of 2)) ∷ []; expiry = 15000; hold = 15000; tries = 8; keep = true }
 
 abbrev pub plans : List ClientPlan
 plans = record { txns = plan_1_1 ∷ [] } ∷ []

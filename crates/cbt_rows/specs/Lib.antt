@@ -1,4 +1,5 @@
 pub mod Words
+pub mod Written
 pub mod OneReplace
 pub mod StopBeforeCommit
 pub mod StopAfterCommit

@@ -24,6 +24,7 @@ use Rattle.cbt_book.specs.declared.operations.OpLog.{OpLog}
 use Rattle.cbt_book.specs.declared.operations.When.TheVariants as when
 use Rattle.cbt_core.specs.declared.case.Case.{Case}
 use Rattle.cbt_rows.specs.Words.{doc_a, name_x, n, stage_of, lists_of, first_doc, event_of, told, faults_of, span_of}
+use Rattle.cbt_rows.specs.Written.{one_more}
 
 -- the node before the run
 abbrev pub opening : State
@@ -79,7 +80,7 @@ abbrev pub m7 : Made
 m7 = told e7 7 1007 (reply.Done 1006960640)
 
 abbrev pub e8 : Event
-e8 = event_of 2 Plain 1008 (step.Stage doc_a (expect.Cas 1) (stage_of (attempt_number 2 1 1) 12 Replace (Some (n 2))))
+e8 = event_of 2 Plain 1008 (step.Stage doc_a (expect.Cas 1) (stage_of (attempt_number 2 1 1) 12 Replace (Some (n 1))))
 
 abbrev pub m8 : Made
 m8 = told e8 8 1008 (reply.CasMismatch 1004994560)
@@ -199,10 +200,10 @@ made_2 = past_16
 
 -- what the clients are to do
 abbrev pub plan_1_1 : TxnPlan
-plan_1_1 = record { ops = (op.Get doc_a name_x) ∷ (op.Replace doc_a (record { value = n 1 })) ∷ []; expiry = 15000; hold = 15000; tries = 8; keep = true }
+plan_1_1 = record { ops = (op.Get doc_a name_x) ∷ (op.Replace doc_a one_more) ∷ []; expiry = 15000; hold = 15000; tries = 8; keep = true }
 
 abbrev pub plan_2_1 : TxnPlan
-plan_2_1 = record { ops = (op.Get doc_a name_x) ∷ (op.Replace doc_a (record { value = n 2 })) ∷ []; expiry = 15000; hold = 15000; tries = 8; keep = true }
+plan_2_1 = record { ops = (op.Get doc_a name_x) ∷ (op.Replace doc_a one_more) ∷ []; expiry = 15000; hold = 15000; tries = 8; keep = true }
 
 abbrev pub plans : List ClientPlan
 plans = record { txns = plan_1_1 ∷ [] } ∷ record { txns = plan_2_1 ∷ [] } ∷ []

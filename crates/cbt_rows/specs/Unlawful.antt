@@ -21,6 +21,7 @@ use Rattle.cbt_book.specs.declared.operations.OpAnswer.TheVariants as answer
 use Rattle.cbt_book.specs.declared.operations.When.TheVariants as when
 use Rattle.cbt_core.specs.declared.case.Case.{Case}
 use Rattle.cbt_rows.specs.Words.{doc_a, n, stage_of, lists_of, first_doc, faults_of, span_of}
+use Rattle.cbt_rows.specs.Written.{n_of}
 
 -- an event of this actor that met no fault; without a reading the clock counts the changes
 abbrev pub call : ℕ → Step → Event
@@ -82,7 +83,7 @@ update_lost = call 1 (step.ReadDoc doc_a) ∷ call 2 (step.ReadDoc doc_a)
     ∷ call 1 add_entry ∷ call 1 (stage_doc attempt 2 5) ∷ call 1 (committing attempt) ∷ []
 
 abbrev pub replacing : ℕ → TxnPlan
-replacing k = record { ops = op.Replace doc_a (record { value = n k }) ∷ []; expiry = 15000; hold = 15000; tries = 8; keep = true }
+replacing k = record { ops = op.Replace doc_a (n_of k) ∷ []; expiry = 15000; hold = 15000; tries = 8; keep = true }
 
 abbrev pub plans : List ClientPlan
 plans = record { txns = replacing 2 ∷ [] } ∷ record { txns = replacing 3 ∷ [] } ∷ []

@@ -19,6 +19,7 @@ use Rattle.cbt_book.specs.declared.clients.TxnEnd.TheVariants as txn_end
 use Rattle.cbt_book.specs.declared.clients.TxnLog.{TxnLog}
 use Rattle.cbt_core.specs.declared.case.Case.{Case}
 use Rattle.cbt_rows.specs.Words.{doc_a, n, lists_of, first_doc, event_of, told, faults_of, span_of}
+use Rattle.cbt_rows.specs.Written.{n_of}
 
 -- the node before the run
 abbrev pub opening : State
@@ -73,7 +74,7 @@ made_1 = past_3
 
 -- what the clients are to do
 abbrev pub plan_1_1 : TxnPlan
-plan_1_1 = record { ops = (op.Replace doc_a (record { value = n 2 })) ∷ []; expiry = 15000; hold = 15000; tries = 1; keep = true }
+plan_1_1 = record { ops = (op.Replace doc_a (n_of 2)) ∷ []; expiry = 15000; hold = 15000; tries = 1; keep = true }
 
 abbrev pub plans : List ClientPlan
 plans = record { txns = plan_1_1 ∷ [] } ∷ []

@@ -4,9 +4,10 @@ use cbt_book::{
     When,
 };
 use cbt_core::Case;
-use cbt_expr::{ClientPlan, Expr, Op, TxnPlan};
+use cbt_expr::{ClientPlan, Expr, Op, Sign, Term, TxnPlan};
 use cbt_json::Json;
 use cbt_model::{Faults, Kept, State};
+use cbt_subdoc::Path;
 use std::alloc::Global;
 use std::test::Fail;
 
@@ -25,14 +26,28 @@ fn opening(alloc: Global) -> State {
     }
 }
 
+/// `{"n":@x.n+1}`
+fn one_more(alloc: Global) -> Option<Expr> {
+    let name = Text::from_str(alloc, "x").ok()?;
+    let path = Some(Path::parse(alloc, "n").ok()?);
+    let number = Term::Plain(Json::read(alloc, b"1").ok()?);
+    let sum = Expr {
+        first: Term::Ref { name, path },
+        rest: one(alloc, (Sign::Plus, number)).ok()?,
+    };
+    let member = (Text::from_str(alloc, "n").ok()?, sum);
+    Some(Expr {
+        first: Term::Members(one(alloc, member).ok()?),
+        rest: List::new(alloc),
+    })
+}
+
 fn plan(alloc: Global) -> Option<ClientPlan> {
     let doc = DocId::new(alloc, "a").ok()?;
     let name = Text::from_str(alloc, "x").ok()?;
     let mut ops = one(alloc, Op::Get { doc, name }).ok()?;
     let doc = DocId::new(alloc, "a").ok()?;
-    let value = Expr {
-        value: Json::read(alloc, b"{\"n\":2}").ok()?,
-    };
+    let value = one_more(alloc)?;
     ops.push(Op::Replace { doc, value }).ok()?;
     let txn = TxnPlan {
         ops,

@@ -1,7 +1,11 @@
-use Rattle.std.proofs.Common.{◌<◌, refl, sym, arith, lit<}
+use Rattle.std.proofs.Common.{◌<◌, Some, refl, sym, ◌∙◌, arith, lit<}
 use Rattle.cbt_base.specs.Clock.{clock_of}
 use Rattle.cbt_model.specs.Table.{row}
+use Rattle.cbt_core.specs.Walk.{nothing_yet}
 use Rattle.cbt_rows.proofs.Never.{no_bool, some-none}
+use Rattle.cbt_rows.proofs.Requested.{noted_by, replaces-n2, table_by}
+use Rattle.cbt_rows.specs.ReaderBeforeCommit as reader
+use Rattle.cbt_rows.specs.Words.{doc_a, n}
 use Rattle.cbt_rows.proofs.unlawful.answers_that_are_not_right.Goals as goal
 
 falls : 5 < 3 → ⊥
@@ -10,7 +14,7 @@ falls h = omega arith
 pub returns : goal.returns
 unfolding row clock_of
 returns c = record {
-  found = λ right. some-none _ right.2;
+  found = λ right. some-none _ (sym (table_by (noted_by nothing_yet (replaces-n2 doc_a) reader.op_1_1_1_1) doc_a (Some (n 1))) ∙ right.2);
   outside = λ right. no_bool (sym right.1);
   moments = λ rise. falls (rise 1 _ refl 0 (lit< tt));
 }
