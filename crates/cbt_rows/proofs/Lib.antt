@@ -38,3 +38,6 @@ pub mod StopBeforeStagingTrial
 pub mod WriteExpiresTrial
 pub mod CleanersCutOffTrial
 pub mod Premises
+pub mod NeedFalseTrial
+pub mod NeedHoldsTrial
+pub mod BadValueTrial

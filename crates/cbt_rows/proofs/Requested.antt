@@ -1,5 +1,5 @@
 -- Operations whose request is known, as the written expressions do not compute by themselves.
-use Rattle.std.proofs.Common.{◌≡◌, ℕ, ◌≤◌, true, List, Option, Some, Ok, ap, sym, subst, ◌∙◌}
+use Rattle.std.proofs.Common.{◌≡◌, ℕ, ◌≤◌, true, List, Option, Some, None, Ok, Err, ap, sym, subst, ◌∙◌}
 use Rattle.std.specs.Option.{option_map}
 use Rattle.cbt_json.specs.declared.value.Json.{Json}
 use Rattle.cbt_expr.specs.Values.{value_of}
@@ -19,9 +19,9 @@ use Rattle.cbt_core.specs.OpAnswers.{Answered}
 use Rattle.cbt_core.specs.OpCalls.{OpCalls}
 use Rattle.cbt_core.specs.Operations.{OpFollows, StandsAt}
 use Rattle.cbt_core.specs.Walk.{AttemptTerms, Sofar, Request, Writes, content_of, request_of, noted, noted_as}
-use Rattle.cbt_rows.proofs.WrittenValues.{value-n1, value-n2, value-n3, value-n9, value-got2, value-got3, value-more-n1, value-more-n2}
+use Rattle.cbt_rows.proofs.WrittenValues.{value-n1, value-n2, value-n3, value-n9, value-got2, value-got3, value-more-n1, value-more-n2, value-n-none}
 use Rattle.cbt_rows.specs.Words.{name_x, n, got}
-use Rattle.cbt_rows.specs.Written.{n_of, got_x, one_more}
+use Rattle.cbt_rows.specs.Written.{n_of, n_x, got_x, one_more}
 
 -- the log of an operation that asks for this
 pub record FollowsAs (t : AttemptTerms) (l : List Made) (at n : ℕ) (so : Sofar) (q : Request) (log : OpLog) : Type 0 where
@@ -119,3 +119,7 @@ replaces-more-n1 {so} d is = replaces (value-more-n1 so.bound is) d
 
 pub replaces-more-n2 : {so : Sofar} (d : List ℕ) → so.bound name_x ≡ Some (n 1) → Asks so (op.Replace d one_more) (Writes d Replace (Ok (Some (n 2))))
 replaces-more-n2 {so} d is = replaces (value-more-n2 so.bound is) d
+
+-- an insert whose expression has no value
+pub inserts-n-none : {so : Sofar} (d : List ℕ) → so.bound name_x ≡ None → Asks so (op.Insert d n_x) (Writes d Insert (Err 1))
+inserts-n-none {so} d none = record { is = ap (λ r. Writes d Insert (content_of r)) (value-n-none so.bound none) }

@@ -34,7 +34,7 @@ use Rattle.cbt_rows.specs.ReaderBeforeCommit as reader
 use Rattle.cbt_rows.specs.SlowOwnerLosesItsEntry as slow
 use Rattle.cbt_rows.specs.TransactionExpires as expires
 use Rattle.cbt_rows.specs.Words.{doc_a, name_x, n, stage_of, lists_of, entry_of, told, span_of}
-use Rattle.cbt_rows.specs.Written.{n_of}
+use Rattle.cbt_rows.specs.Written.{n_of, one_is_two}
 
 -- actor 1, a client
 abbrev pub client : Identity
@@ -154,6 +154,16 @@ staged_then = record { op = 2; span = span_of 1 9; answer = answer.Staged 8 (whe
 -- a writer that met an entry once
 abbrev pub one_entry : List Made
 one_entry = blocked.m4 ∷ blocked.m3 ∷ []
+
+-- a need that is false, told to hold, and told to have made a call
+abbrev pub need_two : Op
+need_two = op.Need one_is_two
+
+abbrev pub told_to_hold : OpLog
+told_to_hold = record { op = 1; span = span_of 0 0; answer = answer.Holds }
+
+abbrev pub told_with_call : OpLog
+told_with_call = record { op = 1; span = span_of 0 1; answer = answer.NeedFalse }
 
 -- a client that read its document twice though it was not staged
 abbrev pub read_twice : List Made

@@ -32,6 +32,9 @@ pub mod LostEntryIsRolledBack
 pub mod StopBeforeStaging
 pub mod WriteExpires
 pub mod CleanersCutOff
+pub mod NeedFalse
+pub mod NeedHolds
+pub mod BadValue
 pub mod Changes
 pub mod Contended
 pub mod Unlawful

@@ -2,6 +2,9 @@
 use Rattle.std.specs.Prelude.{ℕ, pos, List, [], ◌∷◌, Some}
 use Rattle.cbt_json.specs.declared.tree.Tree.TheVariants as tree
 use Rattle.cbt_subdoc.specs.declared.path.Part.TheVariants.{Name}
+use Rattle.cbt_expr.specs.declared.expressions.Cmp.TheVariants.{Eq}
+use Rattle.cbt_expr.specs.declared.expressions.Cond.{Cond}
+use Rattle.cbt_expr.specs.declared.expressions.Cond.TheVariants.{Compare}
 use Rattle.cbt_expr.specs.declared.expressions.Expr.{Expr}
 use Rattle.cbt_expr.specs.declared.expressions.Sign.{Sign}
 use Rattle.cbt_expr.specs.declared.expressions.Sign.TheVariants.{Plus}
@@ -46,3 +49,15 @@ got_x = object_of name_got (alone (ref name_x name_n))
 -- {"n":@x.n+1}
 abbrev pub one_more : Expr
 one_more = object_of name_n (joined (ref name_x name_n) Plus (number 1))
+
+-- {"n":@x.n}
+abbrev pub n_x : Expr
+n_x = object_of name_n (alone (ref name_x name_n))
+
+-- 1 == 2
+abbrev pub one_is_two : Cond
+one_is_two = Compare (alone (number 1)) Eq (alone (number 2))
+
+-- @x.n == 1
+abbrev pub x_is_one : Cond
+x_is_one = Compare (alone (ref name_x name_n)) Eq (alone (number 1))

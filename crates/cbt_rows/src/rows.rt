@@ -34,6 +34,9 @@ ghost use Rattle.cbt_rows.specs.LostEntryIsRolledBack;
 ghost use Rattle.cbt_rows.specs.StopBeforeStaging;
 ghost use Rattle.cbt_rows.specs.WriteExpires;
 ghost use Rattle.cbt_rows.specs.CleanersCutOff;
+ghost use Rattle.cbt_rows.specs.NeedFalse;
+ghost use Rattle.cbt_rows.specs.NeedHolds;
+ghost use Rattle.cbt_rows.specs.BadValue;
 
 /// One client replaces one document.
 pub fn one_replace()
@@ -405,4 +408,31 @@ pub fn cleaners_cut_off()
     ensures licensed { AreLicensed CleanersCutOff.run_case CleanersCutOff.book }
     ensures follow { LogsFollow CleanersCutOff.run_case CleanersCutOff.book }
     ensures at_end { HasValue CleanersCutOff.run_case CleanersCutOff.book 6 doc_a None }
+{}
+
+/// What a client needs is not so: it makes no call.
+pub fn need_false()
+    ensures fresh { IsFresh NeedFalse.opening }
+    ensures legal { IsLegalRun NeedFalse.run_case NeedFalse.book }
+    ensures licensed { AreLicensed NeedFalse.run_case NeedFalse.book }
+    ensures follow { LogsFollow NeedFalse.run_case NeedFalse.book }
+    ensures at_end { HasValue NeedFalse.run_case NeedFalse.book 0 doc_a None }
+{}
+
+/// What a client needs of its document is so, and it replaces the document.
+pub fn need_holds()
+    ensures fresh { IsFresh OneReplace.opening }
+    ensures legal { IsLegalRun NeedHolds.run_case NeedHolds.book }
+    ensures licensed { AreLicensed NeedHolds.run_case NeedHolds.book }
+    ensures follow { LogsFollow NeedHolds.run_case NeedHolds.book }
+    ensures after_commit { HasValue NeedHolds.run_case NeedHolds.book 4 doc_a (Some (n 2)) }
+{}
+
+/// An insertion of a part of a document that is not there.
+pub fn bad_value()
+    ensures fresh { IsFresh BadValue.opening }
+    ensures legal { IsLegalRun BadValue.run_case BadValue.book }
+    ensures licensed { AreLicensed BadValue.run_case BadValue.book }
+    ensures follow { LogsFollow BadValue.run_case BadValue.book }
+    ensures at_end { HasValue BadValue.run_case BadValue.book 1 doc_b None }
 {}

@@ -9,7 +9,7 @@ ghost use Rattle.cbt_core.specs.Transactions.{EndsTxn, IsRetried};
 ghost use Rattle.cbt_core.specs.Walk.{nothing_yet, noted};
 ghost use Rattle.cbt_model.specs.declared.documents.OpKind.TheVariants.{Insert, Replace};
 ghost use Rattle.cbt_model.specs.declared.steps.Step.TheVariants as step;
-ghost use Rattle.cbt_rows.specs.Changes.{first_attempt, base_elsewhere, first_try, fresh_list, get_first, replace_then, got_first, staged_then, one_entry, read_twice, txn_terms, refused_course, miscounted, own_staging, other_staging, unended_course, late_try, cut_course, whole_course};
+ghost use Rattle.cbt_rows.specs.Changes.{first_attempt, base_elsewhere, first_try, fresh_list, get_first, replace_then, got_first, staged_then, need_two, told_to_hold, told_with_call, one_entry, read_twice, txn_terms, refused_course, miscounted, own_staging, other_staging, unended_course, late_try, cut_course, whole_course};
 ghost use Rattle.cbt_rows.specs.LateCommitIsUnknown as late;
 ghost use Rattle.cbt_rows.specs.OneReplace as one;
 ghost use Rattle.cbt_rows.specs.SlowOwnerLosesItsEntry as slow;
@@ -24,6 +24,12 @@ pub fn bases_of_another_reading()
         base_elsewhere }
     ensures fresh_read { ¬ OpFollows first_try fresh_list 1 2
         (noted get_first got_first nothing_yet) replace_then staged_then }
+{}
+
+/// A need that is false is not told to hold, and has made no call.
+pub fn needs_that_do_otherwise()
+    ensures holds { ¬ OpFollows first_try [] 0 1 nothing_yet need_two told_to_hold }
+    ensures calls { ¬ OpFollows first_try one.made_1 0 1 nothing_yet need_two told_with_call }
 {}
 
 /// A write is not blocked by one answer, a get does not read an unstaged document twice, and an entry is

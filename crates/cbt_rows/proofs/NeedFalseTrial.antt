@@ -1,0 +1,166 @@
+-- What a client needs is not so.
+use Rattle.std.proofs.Common.{◌≡◌, ◌≢◌, ℕ, suc, true, false, ◌==◌, inl, [], ◌∷◌, length, Some, None, refl, sym, subst, lit≤, lit<, slice_get, ◌+◌, ◌<◌, ◌≤◌, ◌^◌}
+use Rattle.std.specs.List.Sorted.{IsStrictlySortedBy}
+use Rattle.cbt_base.specs.Clock.{clock_of}
+use Rattle.cbt_base.specs.Ids.{attempt_number}
+use Rattle.cbt_model.specs.Faults.{fate_of}
+use Rattle.cbt_model.specs.Fitting.{step_fits}
+use Rattle.cbt_model.specs.History.{commits}
+use Rattle.cbt_model.specs.Legal.{calls_below, line_due, ahead_at}
+use Rattle.cbt_base.specs.Clock.{held}
+use Rattle.cbt_model.specs.Table.{row}
+use Rattle.cbt_model.specs.declared.events.Event.{Event}
+use Rattle.cbt_book.specs.Cleaners as cleaners
+use Rattle.cbt_book.specs.Licence.{IsLicensed}
+use Rattle.cbt_book.specs.Shown.{aborts}
+use Rattle.cbt_book.specs.Spans as spans
+use Rattle.cbt_expr.specs.declared.plans.Op.TheVariants as op
+use Rattle.cbt_core.specs.Attempts as attempts
+use Rattle.cbt_core.specs.Attempts.{drops}
+use Rattle.cbt_core.specs.Clients.{FollowsPlan}
+use Rattle.cbt_core.specs.Operations as operations
+use Rattle.cbt_core.specs.Runs.{IsFresh, own_of, identity_of, IsLegalRun, AreLicensed, LogsFollow, cleaner_plan}
+use Rattle.cbt_core.specs.Transactions as transactions
+use Rattle.cbt_core.specs.Walk as walk
+use Rattle.cbt_core.specs.WriteSets.{numbered}
+use Rattle.cbt_rows.proofs.Named.{found-all, both_numbered, nothing, all_from, own-none, all_numbered, all_planned, one_value, ◌▸◌, by_number}
+use Rattle.cbt_rows.proofs.Never.{never_of, not_third, no_bool}
+use Rattle.cbt_rows.proofs.WrittenValues.{one_is_two-false}
+use Rattle.cbt_rows.specs.Words.{HasValue, doc_a}
+use Rattle.cbt_rows.specs.Written.{one_is_two}
+use Rattle.cbt_rows.specs.NeedFalse.{opening, history, marks, plans, run_case, book, made_1, plan_1_1, client_1, attempt_1_1_1, op_1_1_1_1}
+
+own-1 : own_of book 1 ≡ made_1
+unfolding row clock_of
+own-1 = refl
+
+pub fresh : IsFresh opening
+unfolding IsStrictlySortedBy
+fresh = record {
+  ordered = record { docs = tt; entries = tt; clients = tt };
+  entries = refl;
+  clients = refl;
+  unstaged = found-all (λ x. x.stage ≡ None) opening.docs tt;
+  low = found-all (λ x. x.cas ≤ opening.last) opening.docs tt;
+}
+
+fates : (i : ℕ) (e : Event) → slice_get history i ≡ Some e → e.fate ≡ fate_of run_case.faults e.actor (suc (calls_below history e.actor i))
+fates = all_from (λ i e. e.fate ≡ fate_of run_case.faults e.actor (suc (calls_below history e.actor i))) history tt
+
+fitting : (i : ℕ) (e : Event) → slice_get history i ≡ Some e → step_fits e.step ≡ true
+fitting = all_from (λ i e. step_fits e.step ≡ true) history tt
+
+readings : (i : ℕ) (e : Event) → slice_get history i ≡ Some e → e.reading ≡ held (line_due (1000, 1) i + ahead_at marks i)
+readings = all_from (λ i e. e.reading ≡ held (line_due (1000, 1) i + ahead_at marks i)) history tt
+
+actor-1 : (0 < 1) × (1 ≤ run_case.actors)
+actor-1 = (lit< tt, lit≤ tt)
+
+numbers : (i : ℕ) (e : Event) → slice_get history i ≡ Some e → (0 < e.actor) × (e.actor ≤ run_case.actors)
+numbers = all_from (λ i e. (0 < e.actor) × (e.actor ≤ run_case.actors)) history tt
+
+pub legal : IsLegalRun run_case book
+legal = record {
+  limits = record {
+    txns = all_numbered (λ k plan. length plan.txns < 2 ^ 16) plans (lit< tt ▸ tt);
+    tries = all_planned (λ plan. plan.tries < 2 ^ 32) plans ((lit< tt ▸ tt) ▸ tt);
+    actors = refl;
+  };
+  opening = refl;
+  history = record {
+    keeps = record {
+      fates = fates;
+      fitting = fitting;
+      readings = λ line is. record {
+        each = λ i e at. one_value (λ it. e.reading ≡ held (line_due it i + ahead_at marks i)) (
+          1000,
+          1,
+        ) (readings i e at) line is;
+      };
+    };
+    numbered = numbers;
+  };
+}
+
+licensed-1 : IsLicensed (identity_of run_case 1) made_1
+licensed-1 = tt
+
+abbrev IsFor : ℕ → Type 0
+IsFor actor = IsLicensed (identity_of run_case actor) (own_of book actor)
+
+unlicensed : (actor : ℕ) → actor ≢ 1 → IsFor actor
+unlicensed actor ne1 = subst (λ l. IsLicensed (identity_of run_case actor) l) (sym (own-none opening history actor (all_from (λ i e. (e.actor ==
+    actor) ≡ false) history tt) (length history))) tt
+
+pub licensed : AreLicensed run_case book
+licensed actor = by_number IsFor 1 (subst (λ l. IsLicensed (identity_of run_case 1) l) (sym own-1) licensed-1) actor (λ ne1. unlicensed actor ne1)
+
+abbrev txn_1_1-terms : transactions.TxnTerms
+txn_1_1-terms = record { client = 1; number = 1; plan = plan_1_1; atrs = 16 }
+
+op_1_1_1_1-follows : operations.OpFollows (transactions.attempt_terms txn_1_1-terms 0 1) made_1 0 1 walk.nothing_yet (op.Need one_is_two) op_1_1_1_1
+op_1_1_1_1-follows = record {
+  counted = refl;
+  spanned = record { follows = lit≤ tt; next = refl; ends = spans.without_calls refl refl };
+  answered = one_is_two-false (λ name. None);
+  calls = refl;
+  stands = tt;
+  failed = tt;
+  in_time = tt;
+}
+
+attempt_1_1_1-follows : attempts.AttemptFollows (transactions.attempt_terms txn_1_1-terms 0 1) made_1 0 attempt_1_1_1
+attempt_1_1_1-follows = record {
+  id = refl;
+  spanned = record { follows = lit≤ tt; next = refl; ends = spans.without_calls refl refl };
+  ops = (op_1_1_1_1-follows, tt, tt);
+  held = lit≤ tt;
+  cut = [];
+  closing = [];
+  rest = refl;
+  cut_follows = tt;
+  ended = attempts.last_refused refl;
+  closes = tt;
+  may_commit = λ h. absurd (never_of commits (attempt_number 1 1 1) [] refl h);
+  may_abort = λ h. absurd (never_of aborts (attempt_number 1 1 1) [] refl h);
+  third = ((λ e. absurd (no_bool (sym e))), λ h. absurd (not_third (attempt_number 1 1 1) [] (lit≤ tt) h));
+  ends = (attempts.for_answer refl, attempts.unsent tt refl, tt);
+}
+
+client_1-follows : FollowsPlan 1 16 (record { txns = plan_1_1 ∷ [] }) made_1 client_1
+client_1-follows = record {
+  txns = (
+    record {
+      start = 0;
+      start_is = refl;
+      attempts = (attempt_1_1_1-follows, tt, tt);
+      few = lit≤ tt;
+      ends = (refl, transactions.need_false);
+    },
+    tt,
+    tt,
+  );
+  whole = inl refl;
+  inside = tt;
+  counted = refl;
+}
+
+clients : (k : ℕ) (plan : _) (log : _) → numbered run_case.plans k ≡ Some plan → numbered book.clients k ≡ Some log
+    → FollowsPlan k run_case.atrs plan (own_of book k) log
+clients = both_numbered (λ k plan log. FollowsPlan k run_case.atrs plan (own_of book k) log) plans book.clients (subst (λ l. FollowsPlan 1 16 (record
+    { txns = plan_1_1 ∷ [] }) l client_1) (sym own-1) client_1-follows ▸ tt)
+
+rounds : (k n : ℕ) (log : _) → numbered run_case.rounds k ≡ Some n → numbered book.cleaners k ≡ Some log
+    → cleaners.CleanerFollows (cleaner_plan run_case k n) (own_of book (length run_case.plans + k)) log
+rounds = both_numbered (λ k n log. cleaners.CleanerFollows (cleaner_plan run_case k n) (own_of book (length run_case.plans + k)) log) run_case.rounds
+    book.cleaners tt
+
+pub follow : LogsFollow run_case book
+follow = record {
+  clients = record { all = refl; each = clients };
+  cleaners = record { all = refl; each = rounds; sweep = λ ms log is at. absurd (nothing is) };
+}
+
+pub at-end : HasValue run_case book 0 doc_a None
+unfolding row clock_of
+at-end = (refl, refl)
