@@ -1,4 +1,5 @@
-//! The operations of a transaction and the plans of clients, as a script states them.
+//! The operations of a transaction and the plans of clients, as a script states them, with the
+//! values of their expressions.
 #![tactic(auto)]
 
 mod copying;
@@ -6,6 +7,8 @@ mod evaluation;
 mod expressions;
 mod operators;
 mod plans;
+#[cfg(test)]
+mod tests;
 mod values;
 
 pub use expressions::{Cmp, Cond, Expr, Sign, Term};
