@@ -5,6 +5,7 @@
 mod copying;
 mod evaluation;
 mod expressions;
+mod laws;
 mod operators;
 mod plans;
 #[cfg(test)]
@@ -12,5 +13,6 @@ mod tests;
 mod values;
 
 pub use expressions::{Cmp, Cond, Expr, Sign, Term};
+pub use laws::{literals_are_worth_themselves, values_are_fit_bodies};
 pub use plans::{ClientPlan, Op, TxnPlan};
 pub use values::{EvalFault, eval, holds};
