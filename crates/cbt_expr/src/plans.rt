@@ -1,12 +1,6 @@
+use crate::expressions::{Cond, Expr};
 use cbt_base::{DocId, Duplicate, List, NoMemory, Text};
-use cbt_json::Json;
 use std::alloc::Global;
-
-/// The expression of an insert or a replace: one JSON value.
-#[derive(Drop)]
-pub struct Expr {
-    pub value: Json,
-}
 
 /// One operation of a transaction.
 #[derive(Drop)]
@@ -16,6 +10,8 @@ pub enum Op {
     Insert { doc: DocId, value: Expr },
     Replace { doc: DocId, value: Expr },
     Remove { doc: DocId },
+    /// Goes on only where the condition holds.
+    Need { cond: Cond },
 }
 
 /// What a transaction does, in this order, and how long and how often it is tried.
@@ -36,13 +32,6 @@ pub struct TxnPlan {
 #[derive(Drop)]
 pub struct ClientPlan {
     pub txns: List<TxnPlan>,
-}
-
-impl Duplicate for Expr {
-    fn copy(&self, alloc: Global) -> Result<Expr, NoMemory> {
-        let value = self.value.copy(alloc)?;
-        Ok(Expr { value })
-    }
 }
 
 impl Duplicate for Op {
@@ -66,6 +55,10 @@ impl Duplicate for Op {
             Op::Remove { doc } => {
                 let doc = doc.copy(alloc)?;
                 Ok(Op::Remove { doc })
+            }
+            Op::Need { cond } => {
+                let cond = cond.copy(alloc)?;
+                Ok(Op::Need { cond })
             }
         }
     }
