@@ -1,0 +1,5 @@
+pub mod Readings
+pub mod Pieces
+pub mod Strings
+pub mod Numbers
+pub mod References
