@@ -1,3 +1,6 @@
 pub mod Behind
 pub mod Digits
 pub mod Steps
+pub mod Names
+pub mod Ranges
+pub mod Turns

@@ -3,3 +3,7 @@ pub mod Pieces
 pub mod Strings
 pub mod Numbers
 pub mod References
+pub mod Terms
+pub mod Bound
+pub mod Conditions
+pub mod Whole

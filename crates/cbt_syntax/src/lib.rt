@@ -1,10 +1,15 @@
 //! The text of expressions and conditions: reading it, and writing it in its canonical form.
 #![tactic(auto)]
 
+mod conditions;
 mod fault;
 mod numbers;
 mod pieces;
+mod reading;
 mod references;
+mod scalars;
 mod strings;
+mod terms;
 
 pub use fault::SyntaxFault;
+pub use reading::{read_cond, read_expr};

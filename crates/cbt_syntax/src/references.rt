@@ -72,6 +72,23 @@ fn path_end(text: &str) -> usize
     text.len()
 }
 
+/// How many bytes at the front may stand in a name.
+pub(crate) fn name_len(text: &str) -> usize
+    ensures len { result ≡ prefix_len is_name_byte text.now }
+    ensures boundary { IsCharBoundary text.now result }
+{
+    name_bytes(text.as_bytes())
+}
+
+fn name_bytes(bytes: &[u8]) -> usize
+    ensures { result ≡ prefix_len is_name_byte bytes.now }
+{
+    bytes
+        .iter()
+        .take_while(|byte| may_stand_in_name(**byte))
+        .count()
+}
+
 /// A path at the front, or none, and what stands behind it.
 pub(crate) fn path(alloc: Global, text: &str) -> Result<(Option<Path>, &str), SyntaxFault>
     ensures { Reads (λ x. (x.0, x.1.now)) result (path_at text.now) }
