@@ -1,5 +1,5 @@
 -- Expressions as plain data.
-use Rattle.std.specs.Prelude.{ℕ, ◌+◌, List, [], ◌∷◌, Option}
+use Rattle.std.specs.Prelude.{ℕ, ◌+◌, List, [], ◌∷◌, map, Option}
 use Rattle.cbt_json.specs.declared.value.Json.{Json}
 use Rattle.cbt_subdoc.specs.declared.path.Path.{Path}
 use Rattle.cbt_expr.specs.declared.expressions.Sign.{Sign}
@@ -57,6 +57,16 @@ form_of = fold-Expr TermForm Form term_step expr_step
 
 abbrev pub term_form : Term → TermForm
 term_form = fold-Term TermForm Form term_step expr_step
+
+-- further terms of an expression, each with its sign
+abbrev pub terms_form : List (Sign × Term) → List (Sign × TermForm)
+terms_form = map (λ x. (x.0, term_form x.1))
+
+abbrev pub items_form : List Expr → Items
+items_form es = items_of (map form_of es)
+
+abbrev pub members_form : List (List ℕ × Expr) → Members
+members_form ms = members_of (map (λ m. (m.0, form_of m.1)) ms)
 
 -- ---- the parts of an expression
 

@@ -2,7 +2,7 @@
 use Rattle.std.specs.Prelude.{ℕ, ◌+◌, ℤ, ◌+ℤ◌, ◌-ℤ◌, Bool, true, false, not, ◌&&◌, nat_le, if◌then◌else◌, List, [], ◌∷◌, length, Option, Some, None, Result, Ok, Err}
 use Rattle.std.specs.Option.{option_and_then}
 use Rattle.std.specs.Result.{result_ok}
-use Rattle.std.specs.Ordering.{int_cmp, is_lt, is_le}
+use Rattle.std.specs.Int.Signed.{lt_z, le_z}
 use Rattle.cbt_json.specs.declared.value.Json.{Json}
 use Rattle.cbt_json.specs.declared.tree.Tree.{Tree, out-Tree}
 use Rattle.cbt_json.specs.declared.tree.Tree.TheOpen.{Tree-F}
@@ -59,10 +59,10 @@ added Minus = on_wholes (λ m n. in_range (m -ℤ n))
 abbrev pub compared : Cmp → Json → Json → Option Bool
 compared Eq x y = Some (tree_eq x y)
 compared Ne x y = Some (not (tree_eq x y))
-compared Lt x y = on_wholes (λ m n. Some (is_lt (int_cmp m n))) x y
-compared Le x y = on_wholes (λ m n. Some (is_le (int_cmp m n))) x y
-compared Gt x y = on_wholes (λ m n. Some (is_lt (int_cmp n m))) x y
-compared Ge x y = on_wholes (λ m n. Some (is_le (int_cmp n m))) x y
+compared Lt x y = on_wholes (λ m n. Some (lt_z m n)) x y
+compared Le x y = on_wholes (λ m n. Some (le_z m n)) x y
+compared Gt x y = on_wholes (λ m n. Some (lt_z n m)) x y
+compared Ge x y = on_wholes (λ m n. Some (le_z n m)) x y
 
 -- ---- the order of evaluation
 

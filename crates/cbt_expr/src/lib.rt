@@ -2,8 +2,12 @@
 #![tactic(auto)]
 
 mod copying;
+mod evaluation;
 mod expressions;
+mod operators;
 mod plans;
+mod values;
 
 pub use expressions::{Cmp, Cond, Expr, Sign, Term};
 pub use plans::{ClientPlan, Op, TxnPlan};
+pub use values::{EvalFault, eval, holds};
