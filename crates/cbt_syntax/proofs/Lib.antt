@@ -4,3 +4,5 @@ pub mod Steps
 pub mod Names
 pub mod Ranges
 pub mod Turns
+pub mod Doubled
+pub mod Joins

@@ -7,3 +7,4 @@ pub mod Terms
 pub mod Bound
 pub mod Conditions
 pub mod Whole
+pub mod Texts

@@ -4,7 +4,9 @@
 mod conditions;
 mod fault;
 mod numbers;
+mod paths;
 mod pieces;
+mod printing;
 mod reading;
 mod references;
 mod scalars;
@@ -12,4 +14,5 @@ mod strings;
 mod terms;
 
 pub use fault::SyntaxFault;
+pub use printing::{push_cond, push_expr};
 pub use reading::{read_cond, read_expr};

@@ -69,8 +69,8 @@ fn word(text: &str) -> Result<(Json, &str), SyntaxFault>
     }
 }
 
-// The JSON value of a tree that keeps the rules.
-fn json_of(tree: Tree) -> Json
+/// The JSON value of a tree that keeps the rules.
+pub(crate) fn json_of(tree: Tree) -> Json
     requires { IsJson tree }
     ensures { result ≡ tree }
 {
