@@ -12,6 +12,8 @@ mod references;
 mod scalars;
 mod strings;
 mod terms;
+#[cfg(test)]
+mod tests;
 
 pub use fault::SyntaxFault;
 pub use printing::{push_cond, push_expr};
