@@ -6,3 +6,6 @@ pub mod Ranges
 pub mod Turns
 pub mod Doubled
 pub mod Joins
+pub mod Ends
+pub mod StringsBack
+pub mod NumbersBack

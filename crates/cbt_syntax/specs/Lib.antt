@@ -8,3 +8,4 @@ pub mod Bound
 pub mod Conditions
 pub mod Whole
 pub mod Texts
+pub mod Rules
