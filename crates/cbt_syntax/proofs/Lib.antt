@@ -9,3 +9,5 @@ pub mod Joins
 pub mod Ends
 pub mod StringsBack
 pub mod NumbersBack
+pub mod NamesBack
+pub mod TermsBack
