@@ -1,5 +1,5 @@
 -- The text of a term and of an expression is read as it.
-use Rattle.std.proofs.Common.{◌≡◌, ℕ, ℤ, pos, negsuc, zero, suc, ◌+◌, ◌^◌, ◌<◌, ◌≤◌, Bool, true, false, cond, eqb, List, [], ◌∷◌, ◌++◌, length, map, Some, None, Ok, Err, refl, sym, subst, ap, ap₂, ◌∙◌, arith, rules, append_assoc, append-nil, decimal, length-append}
+use Rattle.std.proofs.Common.{◌≡◌, ℕ, ℤ, pos, negsuc, zero, suc, ◌+◌, ◌^◌, ◌<◌, ◌≤◌, Bool, true, false, cond, eqb, List, [], ◌∷◌, ◌++◌, length, map, Option, Some, None, Ok, Err, refl, sym, subst, ap, ap₂, ◌∙◌, arith, rules, append_assoc, append-nil, decimal, length-append}
 use Rattle.std.proofs.lemmas.Bool.{eqb-true}
 use Rattle.std.proofs.lemmas.Bool.Decides.{nat_tests}
 use Rattle.std.specs.List.{prefix_len}
@@ -254,3 +254,253 @@ module _ (bound : List ℕ → Bool) where
       omega (arith, items-long (exprs es), length-exprs es, length-append (expr_text e.0) (items_text true (items_form (exprs es)) ++ rest), length-append (items_text true (items_form (exprs es))) rest) in
       ap (λ w. list_at (expr_at bound n) (skip_spaces w)) cut ∙ ap (list_at (expr_at bound n)) (expr-unspaced n text _ read)
       ∙ list-opens n text _ read ∙ ap (λ r. r >>= (λ items. Ok (t.Items items.0, items.1))) (items-back n (length text) [] e es rest are long ends)
+
+  -- ---- objects
+
+  abbrev pairs : List (List ℕ × BackExpr) → List (List ℕ × Expr)
+  pairs ms = map (λ m. (m.0, m.1.0)) ms
+
+  abbrev Rising : List (List ℕ × Expr) → Type 0
+  Rising ms = Rises (slice_cmp nat_cmp) ms
+
+  members-stop : (ms : List (List ℕ × Expr)) (rest : List ℕ) → Stops (members_text true (members_form ms) ++ rest)
+  members-stop [] rest = refl
+  members-stop (m ∷ ms) rest = refl
+
+  members-long : (ms : List (List ℕ × Expr)) → length ms < length (members_text true (members_form ms))
+  members-long [] = omega arith
+  members-long (m ∷ ms) =
+      let tail = members-long ms in
+      omega (arith, tail, length-append (string_text m.0) (58 ∷ (expr_text m.1 ++ members_text true (members_form ms))), length-append (expr_text m.1) (members_text true (members_form ms)))
+
+  -- a member, behind a comma or a bracket
+  abbrev member_text : List ℕ → Expr → List ℕ → List ℕ
+  member_text name e after = string_text name ++ (58 ∷ (expr_text e ++ after))
+
+  member-back : (n : ℕ) (name : List ℕ) (e : BackExpr) (after : List ℕ) → IsForm bound n (form_of e.0) → Stops after
+      → member_at (expr_at bound n) (member_text name e.0 after) ≡ Ok ((name, e.0), after)
+  unfolding member_at
+  member-back n name e after is stops =
+      let read = e.1 n after is stops in
+      ap (λ r. r >>= (λ name. past 58 (skip_spaces name.1) >>= (λ value. expr_at bound n value >>= (λ x. Ok ((name.0, x.0), x.1))))) (string_at-text name (58 ∷ (expr_text e.0 ++ after)))
+      ∙ ap (λ w. expr_at bound n w >>= (λ x. Ok ((name, x.0), x.1))) (expr-unspaced n (expr_text e.0 ++ after) _ read)
+      ∙ ap (λ r. r >>= (λ x. Ok ((name, x.0), x.1))) read
+
+  members-step : (n turns : ℕ) (found : List (List ℕ × Expr)) (text after next name : List ℕ) (x : Expr) (more : Bool)
+      → member_at (expr_at bound n) text ≡ Ok ((name, x), after) → goes_on 125 after ≡ Ok (more, next)
+      → members_from (expr_at bound n) (suc turns) found text
+      ≡ cond more (members_from (expr_at bound n) turns (with_pair (slice_cmp nat_cmp) found name x) next) (Ok (with_pair (slice_cmp nat_cmp) found name x, next))
+  unfolding members_from
+  members-step n turns found text after next name x more e g =
+      ap (λ r. r >>= (λ m. goes_on 125 m.1 >>= (λ next. cond next.0 (members_from (expr_at bound n) turns (with_pair (slice_cmp nat_cmp) found m.0.0 m.0.1) next.1) (Ok (with_pair (slice_cmp nat_cmp) found m.0.0 m.0.1, next.1))))) e
+      ∙ ap (λ r. r >>= (λ next. cond next.0 (members_from (expr_at bound n) turns (with_pair (slice_cmp nat_cmp) found name x) next.1) (Ok (with_pair (slice_cmp nat_cmp) found name x, next.1)))) g
+
+  string-unspaced : (name after : List ℕ) → skip_spaces (string_text name ++ after) ≡ string_text name ++ after
+  string-unspaced name after = ap (λ w. skip_spaces (w ++ after)) (string_text-quoted name) ∙ ap (λ w. w ++ after) (sym (string_text-quoted name))
+
+  member-cut : (name rest : List ℕ) (e : Expr) (ms : List (List ℕ × Expr))
+      → (string_text name ++ (58 ∷ (expr_text e ++ members_text true (members_form ms)))) ++ rest ≡ member_text name e (members_text true (members_form ms) ++ rest)
+  member-cut name rest e ms =
+      append_assoc (string_text name) (58 ∷ (expr_text e ++ members_text true (members_form ms))) rest
+      ∙ ap (λ w. string_text name ++ (58 ∷ w)) (append_assoc (expr_text e) (members_text true (members_form ms)) rest)
+
+  members-back : (n turns : ℕ) (found : List (List ℕ × Expr)) (m : List ℕ × BackExpr) (ms : List (List ℕ × BackExpr)) (rest : List ℕ)
+      → AreMembers bound n (members_form (pairs (m ∷ ms))) → Rising (found ++ pairs (m ∷ ms)) → length ms < turns → Ends rest
+      → members_from (expr_at bound n) turns found (member_text m.0 m.1.0 (members_text true (members_form (pairs ms)) ++ rest)) ≡ Ok (found ++ pairs (m ∷ ms), rest)
+  members-back n zero found m ms rest are rises some ends = absurd (omega arith)
+  members-back n (suc turns) found m [] rest are rises some ends =
+      let last : with_pair (slice_cmp nat_cmp) found m.0 m.1.0 ≡ found ++ (m.0, m.1.0) ∷ [] = insert-last (slice_cmp nat_cmp) nat_list_cmp_total found m.0 m.1.0 [] rises in
+      members-step n turns found _ (125 ∷ rest) (skip_spaces rest) m.0 m.1.0 false (member-back n m.0 m.1 (125 ∷ rest) are.0 refl) refl
+      ∙ ap (λ w. Ok (with_pair (slice_cmp nat_cmp) found m.0 m.1.0, w)) (spaces-end rest ends) ∙ ap (λ ps. Ok (ps, rest)) last
+  members-back n (suc turns) found m (x ∷ xs) rest are rises some ends =
+      let last : with_pair (slice_cmp nat_cmp) found m.0 m.1.0 ≡ found ++ (m.0, m.1.0) ∷ [] = insert-last (slice_cmp nat_cmp) nat_list_cmp_total found m.0 m.1.0 (pairs (x ∷ xs)) rises in
+      let text = member_text x.0 x.1.0 (members_text true (members_form (pairs xs)) ++ rest) in
+      let cut : members_text true (members_form (pairs (x ∷ xs))) ++ rest ≡ 44 ∷ text = ap (λ w. 44 ∷ w) (member-cut x.0 rest x.1.0 (pairs xs)) in
+      let whole : member_at (expr_at bound n) (member_text m.0 m.1.0 (members_text true (members_form (pairs (x ∷ xs))) ++ rest)) ≡ Ok ((m.0, m.1.0), 44 ∷ text) =
+      member-back n m.0 m.1 (members_text true (members_form (pairs (x ∷ xs))) ++ rest) are.0 (members-stop (pairs (x ∷ xs)) rest) ∙ ap (λ w. Ok ((m.0, m.1.0), w)) cut in
+      let again : Rising ((found ++ (m.0, m.1.0) ∷ []) ++ pairs (x ∷ xs)) = subst Rising (sym (append_assoc found ((m.0, m.1.0) ∷ []) (pairs (x ∷ xs)))) rises in
+      members-step n turns found _ (44 ∷ text) (skip_spaces text) m.0 m.1.0 true whole refl
+      ∙ ap (members_from (expr_at bound n) turns (with_pair (slice_cmp nat_cmp) found m.0 m.1.0)) (string-unspaced x.0 (58 ∷ (expr_text x.1.0 ++ (members_text true (members_form (pairs xs)) ++ rest))))
+      ∙ ap (λ ps. members_from (expr_at bound n) turns ps text) last
+      ∙ members-back n turns (found ++ (m.0, m.1.0) ∷ []) x xs rest are.1 again (omega arith) ends
+      ∙ ap (λ ps. Ok (ps, rest)) (append_assoc found ((m.0, m.1.0) ∷ []) (pairs (x ∷ xs)))
+
+  object-empty : (n : ℕ) (rest : List ℕ) → Ends rest → object_at (expr_at bound n) (125 ∷ rest) ≡ Ok (t.Members [], rest)
+  unfolding object_at
+  object-empty n rest ends = ap (λ w. Ok (t.Members [], w)) (spaces-end rest ends)
+
+  object-opens : (n : ℕ) (name after : List ℕ) → let text = string_text name ++ after in
+      object_at (expr_at bound n) text ≡ (members_from (expr_at bound n) (length text) [] text >>= (λ ms. Ok (t.Members ms.0, ms.1)))
+  unfolding object_at
+  object-opens n name after =
+      ap (λ w. object_at (expr_at bound n) (w ++ after)) (string_text-quoted name)
+      ∙ ap (λ w. members_from (expr_at bound n) (length (w ++ after)) [] (w ++ after) >>= (λ ms. Ok (t.Members ms.0, ms.1))) (sym (string_text-quoted name))
+
+  length-pairs : (ms : List (List ℕ × BackExpr)) → length (pairs ms) ≡ length ms
+  length-pairs [] = refl
+  length-pairs (m ∷ ms) = ap suc (length-pairs ms)
+
+  names-keys : (ms : List (List ℕ × Expr)) → names_of (members_form ms) ≡ keys_of ms
+  names-keys [] = refl
+  names-keys (m ∷ ms) = ap (λ ks. m.0 ∷ ks) (names-keys ms)
+
+  object-back : (n : ℕ) (ms : List (List ℕ × BackExpr)) (rest : List ℕ) → IsStrictlySortedBy (slice_cmp nat_cmp) (names_of (members_form (pairs ms)))
+      → AreMembers bound n (members_form (pairs ms)) → Ends rest
+      → object_at (expr_at bound n) (skip_spaces (members_text false (members_form (pairs ms)) ++ rest)) ≡ Ok (t.Members (pairs ms), rest)
+  object-back n [] rest rise are ends = object-empty n rest ends
+  object-back n (m ∷ ms) rest rise are ends =
+      let after = 58 ∷ (expr_text m.1.0 ++ (members_text true (members_form (pairs ms)) ++ rest)) in
+      let text = string_text m.0 ++ after in
+      let cut : members_text false (members_form (pairs (m ∷ ms))) ++ rest ≡ text = member-cut m.0 rest m.1.0 (pairs ms) in
+      let rises : Rising (pairs (m ∷ ms)) = subst (IsStrictlySortedBy (slice_cmp nat_cmp)) (names-keys (pairs (m ∷ ms))) rise in
+      let long : length ms < length text =
+      omega (arith, members-long (pairs ms), length-pairs ms, length-append (string_text m.0) after, length-append (expr_text m.1.0) (members_text true (members_form (pairs ms)) ++ rest),
+      length-append (members_text true (members_form (pairs ms))) rest) in
+      ap (λ w. object_at (expr_at bound n) (skip_spaces w)) cut ∙ ap (object_at (expr_at bound n)) (string-unspaced m.0 after)
+      ∙ object-opens n m.0 after ∙ ap (λ r. r >>= (λ ms. Ok (t.Members ms.0, ms.1))) (members-back n (length text) [] m ms rest are rises long ends)
+
+  -- ---- references
+
+  reference-back : (name rest : List ℕ) (path : Option Path) → IsBoundName bound name → IsMaybePath path → Ends rest
+      → reference_at bound ((name ++ maybe_path_text path) ++ rest) ≡ Ok (t.Ref name path, rest)
+  unfolding reference_at
+  reference-back name rest path known is ends =
+      ap (reference_at bound) (append_assoc name (maybe_path_text path) rest)
+      ∙ ap (λ r. r >>= (λ name. path_at name.1 >>= (λ path. Ok (t.Ref name.0 path.0, skip_spaces path.1))))
+      (name_at-text bound name (maybe_path_text path ++ rest) known.0 known.1 (maybe-path-no-name path rest ends))
+      ∙ ap (λ r. r >>= (λ path. Ok (t.Ref name path.0, skip_spaces path.1))) (maybe-path-text path rest is ends)
+      ∙ ap (λ w. Ok (t.Ref name path, w)) (spaces-end rest ends)
+
+  -- ---- terms
+
+  form-Plain : (json : Tree) → term_form (t.Plain json) ≡ plain json
+  form-Plain json = search (rules, the_lemmas)
+
+  form-Items : (es : List Expr) → term_form (t.Items es) ≡ list (items_form es)
+  form-Items es = search (rules, the_lemmas)
+
+  form-Ref : (name : List ℕ) (path : Option Path) → term_form (t.Ref name path) ≡ reference name path
+  form-Ref name path = search (rules, the_lemmas)
+
+  -- a claim on a term, by its form
+  by_form : (x : Term) (form : TermForm) → term_form x ≡ form → ((n : ℕ) (rest : List ℕ) → IsTerm bound n form → Ends rest → term_at bound n (term_text form ++ rest) ≡ Ok (x, rest)) → TermBack x
+  by_form x form is claim = subst (λ f. (n : ℕ) (rest : List ℕ) → IsTerm bound n f → Ends rest → term_at bound n (term_text f ++ rest) ≡ Ok (x, rest)) (sym is) claim
+
+  plain-claim : (json : Tree) (n : ℕ) (rest : List ℕ) → IsTerm bound n (plain json) → Ends rest → term_at bound n (term_text (plain json) ++ rest) ≡ Ok (t.Plain json, rest)
+  plain-claim json n rest is ends =
+      let s = shape n in
+      s.same (text_of json ++ rest) ∙ plain-term s.lists s.objects (text_of json ++ rest) _ (plain-back json rest is ends)
+
+  items-claim : (es : List BackExpr) (n : ℕ) (rest : List ℕ) → IsTerm bound n (list (items_form (exprs es))) → Ends rest
+      → term_at bound n (term_text (list (items_form (exprs es))) ++ rest) ≡ Ok (t.Items (exprs es), rest)
+  unfolding term_at term_by
+  items-claim es zero rest is ends = absurd is
+  items-claim es (suc n) rest is ends = list-back n es rest is ends
+
+  members-claim : (ms : List (List ℕ × BackExpr)) (n : ℕ) (rest : List ℕ) → IsTerm bound n (object (members_form (pairs ms))) → Ends rest
+      → term_at bound n (term_text (object (members_form (pairs ms))) ++ rest) ≡ Ok (t.Members (pairs ms), rest)
+  unfolding term_at term_by
+  members-claim ms zero rest is ends = absurd is
+  members-claim ms (suc n) rest is ends = object-back n ms rest is.0 is.1 ends
+
+  reference-claim : (name : List ℕ) (path : Option Path) (n : ℕ) (rest : List ℕ) → IsTerm bound n (reference name path) → Ends rest
+      → term_at bound n (term_text (reference name path) ++ rest) ≡ Ok (t.Ref name path, rest)
+  unfolding term_by
+  reference-claim name path n rest is ends =
+      (shape n).same (64 ∷ ((name ++ maybe_path_text path) ++ rest)) ∙ reference-back name rest path is.0 is.1 ends
+
+  term_level : (y : Term-F BackTerm BackExpr) → TermBack (roll-Term (map-Term BackTerm BackExpr Term Expr (λ e. e.0) (λ e. e.0) y))
+  term_level (Term-F.Plain json) = subst TermBack (sym (t.rolls-Plain json)) (by_form (t.Plain json) _ (form-Plain json) (plain-claim json))
+  term_level (Term-F.Items es) = subst TermBack (sym (t.rolls-Items (exprs es))) (by_form (t.Items (exprs es)) _ (form-Items (exprs es)) (items-claim es))
+  term_level (Term-F.Members ms) = subst TermBack (sym (t.rolls-Members (pairs ms))) (by_form (t.Members (pairs ms)) _ (term_form-Members (pairs ms)) (members-claim ms))
+  term_level (Term-F.Ref name path) = subst TermBack (sym (t.rolls-Ref name path)) (by_form (t.Ref name path) _ (form-Ref name path) (reference-claim name path))
+
+  -- ---- expressions
+
+  abbrev joins : List (Sign × BackTerm) → List (Sign × Term)
+  joins xs = map (λ x. (x.0, x.1.0)) xs
+
+  abbrev AllTerms : ℕ → List (Sign × TermForm) → Type 0
+  AllTerms n [] = Unit {0}
+  AllTerms n (x ∷ xs) = IsTerm bound n x.1 × AllTerms n xs
+
+  all-terms : (n : ℕ) (form : Form) (xs : List (Sign × TermForm)) → IsForm bound n (joined_all form xs) → IsForm bound n form × AllTerms n xs
+  all-terms n form [] is = (is, tt)
+  all-terms n form (x ∷ xs) is = let p = all-terms n (joined form x.0 x.1) xs is in (p.0.0, (p.0.1, p.1))
+
+  sign-read : (sign : Sign) (text : List ℕ) → sign_at (sign_text sign ++ text) ≡ Some (sign, skip_spaces text)
+  sign-read Plus text = refl
+  sign-read Minus text = refl
+
+  sign-ends : (sign : Sign) (text : List ℕ) → Ends (sign_text sign ++ text)
+  sign-ends Plus text = refl
+  sign-ends Minus text = refl
+
+  sign-long : (sign : Sign) → 0 < length (sign_text sign)
+  sign-long Plus = omega arith
+  sign-long Minus = omega arith
+
+  joins-cut : (x : Sign × TermForm) (xs : List (Sign × TermForm)) (rest : List ℕ) → joins_text (x ∷ xs) ++ rest ≡ sign_text x.0 ++ (term_text x.1 ++ (joins_text xs ++ rest))
+  joins-cut x xs rest = append_assoc (sign_text x.0) (term_text x.1 ++ joins_text xs) rest ∙ ap (λ w. sign_text x.0 ++ w) (append_assoc (term_text x.1) (joins_text xs) rest)
+
+  joins-end : (xs : List (Sign × TermForm)) (rest : List ℕ) → Stops rest → Ends (joins_text xs ++ rest)
+  joins-end [] rest stops = stops-ends rest stops
+  joins-end (x ∷ xs) rest stops = subst Ends (sym (joins-cut x xs rest)) (sign-ends x.0 (term_text x.1 ++ (joins_text xs ++ rest)))
+
+  joins-long : (xs : List (Sign × TermForm)) → length xs ≤ length (joins_text xs)
+  joins-long [] = omega arith
+  joins-long (x ∷ xs) =
+      let tail = joins-long xs in
+      let one = sign-long x.0 in
+      omega (arith, tail, one, length-append (sign_text x.0) (term_text x.1 ++ joins_text xs), length-append (term_text x.1) (joins_text xs))
+
+  joined-stops : (n turns : ℕ) (found : List (Sign × Term)) (text : List ℕ) → sign_at text ≡ None → joined_from (term_at bound n) turns found text ≡ Ok (found, text)
+  unfolding joined_from
+  joined-stops n zero found text e = refl
+  joined-stops n (suc turns) found text e =
+      ap (λ o. by_sign o (Ok (found, text)) (λ x. term_at bound n x.1 >>= (λ y. joined_from (term_at bound n) turns (found ++ (x.0, y.0) ∷ []) y.1))) e
+
+  joined-step : (n turns : ℕ) (found : List (Sign × Term)) (text behind after : List ℕ) (sign : Sign) (x : Term) → sign_at text ≡ Some (sign, behind)
+      → term_at bound n behind ≡ Ok (x, after) → joined_from (term_at bound n) (suc turns) found text ≡ joined_from (term_at bound n) turns (found ++ (sign, x) ∷ []) after
+  unfolding joined_from
+  joined-step n turns found text behind after sign x e read =
+      ap (λ o. by_sign o (Ok (found, text)) (λ x. term_at bound n x.1 >>= (λ y. joined_from (term_at bound n) turns (found ++ (x.0, y.0) ∷ []) y.1))) e
+      ∙ ap (λ r. r >>= (λ y. joined_from (term_at bound n) turns (found ++ (sign, y.0) ∷ []) y.1)) read
+
+  joins-back : (n turns : ℕ) (found : List (Sign × Term)) (xs : List (Sign × BackTerm)) (rest : List ℕ) → AllTerms n (terms_form (joins xs)) → length xs ≤ turns → Stops rest
+      → joined_from (term_at bound n) turns found (joins_text (terms_form (joins xs)) ++ rest) ≡ Ok (found ++ joins xs, rest)
+  joins-back n turns found [] rest are enough stops = joined-stops n turns found rest (sign-stop rest stops) ∙ ap (λ fs. Ok (fs, rest)) (sym (append-nil found))
+  joins-back n zero found (x ∷ xs) rest are enough stops = absurd (omega arith)
+  joins-back n (suc turns) found (x ∷ xs) rest are enough stops =
+      let after = joins_text (terms_form (joins xs)) ++ rest in
+      let text = term_text (term_form x.1.0) ++ after in
+      let read = x.1.1 n after are.0 (joins-end (terms_form (joins xs)) rest stops) in
+      let sign : sign_at (sign_text x.0 ++ text) ≡ Some (x.0, text) = sign-read x.0 text ∙ ap (λ w. Some (x.0, w)) (term-unspaced n text _ read) in
+      ap (joined_from (term_at bound n) (suc turns) found) (joins-cut (x.0, term_form x.1.0) (terms_form (joins xs)) rest)
+      ∙ joined-step n turns found (sign_text x.0 ++ text) text after x.0 x.1.0 sign read
+      ∙ joins-back n turns (found ++ (x.0, x.1.0) ∷ []) xs rest are.1 (omega arith) stops
+      ∙ ap (λ fs. Ok (fs, rest)) (append_assoc found ((x.0, x.1.0) ∷ []) (joins xs))
+
+  length-joins : (xs : List (Sign × BackTerm)) → length (terms_form (joins xs)) ≡ length xs
+  length-joins [] = refl
+  length-joins (x ∷ xs) = ap suc (length-joins xs)
+
+  expr_level : (y : Expr-F BackTerm BackExpr) → ExprBack (roll-Expr (map-Expr BackTerm BackExpr Term Expr (λ e. e.0) (λ e. e.0) y))
+  unfolding expr_by
+  expr_level y n rest is stops =
+      let e = roll-Expr (map-Expr BackTerm BackExpr Term Expr (λ e. e.0) (λ e. e.0) y) in
+      let xs = terms_form (joins y.rest) in
+      let after = joins_text xs ++ rest in
+      let are = all-terms n (one (term_form y.first.0)) xs (subst (IsForm bound n) (form_of-terms e) is) in
+      let cut : expr_text e ++ rest ≡ term_text (term_form y.first.0) ++ after =
+      ap (λ w. w ++ rest) (expr-text e) ∙ append_assoc (term_text (term_form y.first.0)) (joins_text xs) rest in
+      let enough : length y.rest ≤ length after = omega (arith, joins-long xs, length-joins y.rest, length-append (joins_text xs) rest) in
+      ap (expr_at bound n) cut
+      ∙ ap (λ r. r >>= (λ first. joined_from (term_at bound n) (length first.1) [] first.1 >>= (λ rest. Ok (roll-Expr (record { first = first.0; rest = rest.0 }), rest.1))))
+      (y.first.1 n after are.0 (joins-end xs rest stops))
+      ∙ ap (λ r. r >>= (λ rest. Ok (roll-Expr (record { first = y.first.0; rest = rest.0 }), rest.1))) (joins-back n (length after) [] y.rest rest are.1 enough stops)
+
+  pub expr-back : (e : Expr) → ExprBack e
+  expr-back = ind-Expr TermBack ExprBack
+      (λ x y is. subst (λ z. TermBack (roll-Term z)) is (term_level y))
+      (λ x y is. subst (λ z. ExprBack (roll-Expr z)) is (expr_level y))
