@@ -11,3 +11,4 @@ pub mod StringsBack
 pub mod NumbersBack
 pub mod NamesBack
 pub mod TermsBack
+pub mod ReadBack

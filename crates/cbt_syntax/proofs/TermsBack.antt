@@ -108,7 +108,7 @@ plain-64 : (bs : List ℕ) → plain_at (64 ∷ bs) ≡ Err Malformed
 unfolding plain_at scalar_at word_at
 plain-64 bs = refl
 
-plain-32 : (bs : List ℕ) → plain_at (32 ∷ bs) ≡ Err Malformed
+pub plain-32 : (bs : List ℕ) → plain_at (32 ∷ bs) ≡ Err Malformed
 unfolding plain_at scalar_at word_at
 plain-32 bs = refl
 
@@ -117,7 +117,7 @@ unfolding plain_at scalar_at word_at
 plain-93 bs = refl
 
 -- a byte with which nothing is read is another one
-not_byte : {A : Type 0} (read : List ℕ → Read A) (c b : ℕ) (bs : List ℕ) (x : A × List ℕ) (t : Bool) → ((ys : List ℕ) → read (c ∷ ys) ≡ Err Malformed)
+pub not_byte : {A : Type 0} (read : List ℕ → Read A) (c b : ℕ) (bs : List ℕ) (x : A × List ℕ) (t : Bool) → ((ys : List ℕ) → read (c ∷ ys) ≡ Err Malformed)
     → read (b ∷ bs) ≡ Ok x → eqb b c ≡ t → t ≡ false
 not_byte read c b bs x true fails e is = absurd (let same = eqb-true b c is in let k = fails bs in let m = ap (λ z. read (z ∷ bs)) same in cc)
 not_byte read c b bs x false fails e is = refl
@@ -132,12 +132,12 @@ module _ (bound : List ℕ → Bool) where
       let n64 = not_byte plain_at 64 b bs x (eqb b 64) plain-64 e refl in
       simp (n91, n123, n64) e
 
-  record Shape (n : ℕ) : Type 0 where
+  pub record Shape (n : ℕ) : Type 0 where
     pub lists : List ℕ → Read Term
     pub objects : List ℕ → Read Term
     pub same : (text : List ℕ) → term_at bound n text ≡ term_by bound lists objects text
 
-  shape : (n : ℕ) → Shape n
+  pub shape : (n : ℕ) → Shape n
   unfolding term_at
   shape zero = record { lists = too_deep bound; objects = too_deep bound; same = λ text. refl }
   shape (suc n) = record { lists = list_at (expr_by (term_at bound n)); objects = object_at (expr_by (term_at bound n)); same = λ text. refl }
@@ -154,11 +154,11 @@ module _ (bound : List ℕ → Bool) where
   unfolding term_by
   term-93 n bs = (shape n).same (93 ∷ bs) ∙ plain-93 bs
 
-  expr-none : (n : ℕ) → expr_at bound n [] ≡ Err Malformed
+  pub expr-none : (n : ℕ) → expr_at bound n [] ≡ Err Malformed
   unfolding expr_by
   expr-none n = ap (λ r. r >>= (λ first. joined_from (term_at bound n) (length first.1) [] first.1 >>= (λ rest. Ok (roll-Expr (record { first = first.0; rest = rest.0 }), rest.1)))) (term-none n)
 
-  expr-32 : (n : ℕ) (bs : List ℕ) → expr_at bound n (32 ∷ bs) ≡ Err Malformed
+  pub expr-32 : (n : ℕ) (bs : List ℕ) → expr_at bound n (32 ∷ bs) ≡ Err Malformed
   unfolding expr_by
   expr-32 n bs = ap (λ r. r >>= (λ first. joined_from (term_at bound n) (length first.1) [] first.1 >>= (λ rest. Ok (roll-Expr (record { first = first.0; rest = rest.0 }), rest.1)))) (term-32 n bs)
 
@@ -173,15 +173,15 @@ module _ (bound : List ℕ → Bool) where
   term-unspaced : (n : ℕ) (text : List ℕ) (x : Term × List ℕ) → term_at bound n text ≡ Ok x → skip_spaces text ≡ text
   term-unspaced n text x e = unspaced (term_at bound n) text x (term-32 n) e
 
-  expr-unspaced : (n : ℕ) (text : List ℕ) (x : Expr × List ℕ) → expr_at bound n text ≡ Ok x → skip_spaces text ≡ text
+  pub expr-unspaced : (n : ℕ) (text : List ℕ) (x : Expr × List ℕ) → expr_at bound n text ≡ Ok x → skip_spaces text ≡ text
   expr-unspaced n text x e = unspaced (expr_at bound n) text x (expr-32 n) e
 
   -- ---- what is claimed of terms and of expressions
 
-  abbrev TermBack : Term → Type 0
+  abbrev pub TermBack : Term → Type 0
   TermBack x = (n : ℕ) (rest : List ℕ) → IsTerm bound n (term_form x) → Ends rest → term_at bound n (term_text (term_form x) ++ rest) ≡ Ok (x, rest)
 
-  abbrev ExprBack : Expr → Type 0
+  abbrev pub ExprBack : Expr → Type 0
   ExprBack e = (n : ℕ) (rest : List ℕ) → IsForm bound n (form_of e) → Stops rest → expr_at bound n (expr_text e ++ rest) ≡ Ok (e, rest)
 
   abbrev BackTerm : Type 0
@@ -354,8 +354,14 @@ module _ (bound : List ℕ → Bool) where
       let cut : members_text false (members_form (pairs (m ∷ ms))) ++ rest ≡ text = member-cut m.0 rest m.1.0 (pairs ms) in
       let rises : Rising (pairs (m ∷ ms)) = subst (IsStrictlySortedBy (slice_cmp nat_cmp)) (names-keys (pairs (m ∷ ms))) rise in
       let long : length ms < length text =
-      omega (arith, members-long (pairs ms), length-pairs ms, length-append (string_text m.0) after, length-append (expr_text m.1.0) (members_text true (members_form (pairs ms)) ++ rest),
-      length-append (members_text true (members_form (pairs ms))) rest) in
+      omega (
+        arith,
+        members-long (pairs ms),
+        length-pairs ms,
+        length-append (string_text m.0) after,
+        length-append (expr_text m.1.0) (members_text true (members_form (pairs ms)) ++ rest),
+        length-append (members_text true (members_form (pairs ms))) rest,
+      ) in
       ap (λ w. object_at (expr_at bound n) (skip_spaces w)) cut ∙ ap (object_at (expr_at bound n)) (string-unspaced m.0 after)
       ∙ object-opens n m.0 after ∙ ap (λ r. r >>= (λ ms. Ok (t.Members ms.0, ms.1))) (members-back n (length text) [] m ms rest are rises long ends)
 

@@ -3,6 +3,7 @@
 
 mod conditions;
 mod fault;
+mod laws;
 mod numbers;
 mod paths;
 mod pieces;
@@ -16,5 +17,6 @@ mod terms;
 mod tests;
 
 pub use fault::SyntaxFault;
+pub use laws::{cond_text_reads_back, expr_text_reads_back};
 pub use printing::{push_cond, push_expr};
 pub use reading::{read_cond, read_expr};
