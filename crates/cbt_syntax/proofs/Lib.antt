@@ -12,3 +12,6 @@ pub mod NumbersBack
 pub mod NamesBack
 pub mod TermsBack
 pub mod ReadBack
+pub mod Inserted
+pub mod CanonicalPaths
+pub mod WellRead

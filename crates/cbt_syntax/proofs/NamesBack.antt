@@ -153,7 +153,7 @@ tail-nameable : (parts : List Part) (text : List ℕ) → IsTailText parts text 
 tail-nameable [] text written = tt
 tail-nameable (part ∷ parts) text written = (part-nameable part written.0 written.2.0, tail-nameable parts written.1 written.2.1)
 
-all-nameable : (parts : List Part) (text : List ℕ) → IsTextOf parts text → AllNameable parts
+pub all-nameable : (parts : List Part) (text : List ℕ) → IsTextOf parts text → AllNameable parts
 all-nameable [] text written = absurd written
 all-nameable (part ∷ parts) text written = (part-nameable part written.0 written.2.0, tail-nameable parts written.1 written.2.1)
 

@@ -54,7 +54,7 @@ decimal-below (b ∷ bs) =
     either_below (eqb b 48) _ _ (λ _. omega arith)
     (either_below (is_digit b) _ _ (λ e. let small : b - 48 < 2 ^ 64 = grind (arith, nat_tests) in digits-below (b - 48) bs small) tt)
 
-abbrev InRange : Read ℤ → Type 0
+abbrev pub InRange : Read ℤ → Type 0
 InRange (Ok x) = is_in_range x.0 ≡ true
 InRange (Err fault) = Unit {0}
 
@@ -77,7 +77,7 @@ negative_by : (r : Read ℕ) → InRange (r >>= (λ n. cond (eqb n.0 0 || ltb (2
 negative_by (Ok x) = either_range (eqb x.0 0 || ltb (2 ^ 63) x.0) _ _ tt (λ e. ended-range (neg_ℤ (pos x.0)) x.1 (negative_in_range x.0 e))
 negative_by (Err fault) = tt
 
-number-range : (text : List ℕ) → InRange (number_at text)
+pub number-range : (text : List ℕ) → InRange (number_at text)
 unfolding number_at
 number-range [] = tt
 number-range (b ∷ bs) = either_range (eqb b 45) (negative_at bs) _ (negative_by (decimal_at bs)) (λ _. positive_by (decimal_at (b ∷ bs)) (decimal-below (b ∷ bs)))

@@ -15,3 +15,13 @@ pub fn expr_text_reads_back()
 pub fn cond_text_reads_back()
     ensures { (bound : List ℕ → Bool) (cond : Cond) → IsCond bound cond → cond_of bound (cond_text cond) ≡ Ok cond }
 {}
+
+/// A law: an expression that is read keeps the rules, so its canonical text is read as it again.
+pub fn read_expressions_keep_rules()
+    ensures { (bound : List ℕ → Bool) (text : List ℕ) (expr : Expr) → expr_of bound text ≡ Ok expr → IsExpr bound expr }
+{}
+
+/// A law: a condition that is read keeps the rules, so its canonical text is read as it again.
+pub fn read_conditions_keep_rules()
+    ensures { (bound : List ℕ → Bool) (text : List ℕ) (cond : Cond) → cond_of bound text ≡ Ok cond → IsCond bound cond }
+{}

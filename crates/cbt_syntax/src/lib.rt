@@ -17,6 +17,9 @@ mod terms;
 mod tests;
 
 pub use fault::SyntaxFault;
-pub use laws::{cond_text_reads_back, expr_text_reads_back};
+pub use laws::{
+    cond_text_reads_back, expr_text_reads_back, read_conditions_keep_rules,
+    read_expressions_keep_rules,
+};
 pub use printing::{push_cond, push_expr};
 pub use reading::{read_cond, read_expr};
