@@ -1,12 +1,11 @@
 -- The canonical text of a path that a reference had is the text of that path.
-use Rattle.std.proofs.Common.{◌≡◌, inl, inr, ℕ, zero, suc, ◌+◌, ◌/◌, ◌%◌, ◌^◌, ◌<◌, ◌≤◌, Bool, true, false, cond, not, ◌&&◌, ◌||◌, eqb, ltb, List, [], ◌∷◌, ◌++◌, length, take, drop, Option, Some, None, Result, Ok, Err, refl, sym, subst, ap, ◌∙◌, arith, append_assoc, decimal, length-append}
-use Rattle.std.proofs.lemmas.Bool.{and_parts, and_from, ne_eqb}
+use Rattle.std.proofs.Common.{◌≡◌, inl, inr, ℕ, suc, ◌+◌, ◌%◌, ◌^◌, ◌<◌, ◌≤◌, Bool, true, false, cond, eqb, ltb, List, [], ◌∷◌, ◌++◌, length, take, Some, Ok, Err, refl, sym, subst, ap, ◌∙◌, arith, append_assoc, decimal, length-append}
+use Rattle.std.proofs.lemmas.Bool.{and_parts, and_from}
 use Rattle.std.proofs.lemmas.Bool.Decides.{nat_tests}
 use Rattle.std.proofs.lemmas.Fmt.{decimal_by_steps}
 use Rattle.std.specs.List.{list_all}
 use Rattle.cbt_subdoc.specs.declared.path.Part.{Part}
 use Rattle.cbt_subdoc.specs.declared.path.Part.TheVariants.{Name, Place, Last}
-use Rattle.cbt_subdoc.specs.declared.path.PathFault.{PathFault}
 use Rattle.cbt_subdoc.specs.declared.path.PathFault.TheVariants.{Empty, TooLong, TooManyParts}
 use Rattle.cbt_subdoc.specs.Paths.{is_plain, parts_of, counted, path_of}
 use Rattle.cbt_subdoc.specs.PathLimits.{max_parts}

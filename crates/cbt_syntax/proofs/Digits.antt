@@ -1,10 +1,9 @@
 -- The digits of a number, read one after another.
-use Rattle.std.proofs.Common.{◌≡◌, ℕ, ◌+◌, ◌-◌, ◌*◌, ◌^◌, ◌<◌, Bool, true, false, cond, ltb, List, ◌∷◌, length, drop, get_or, Option, Some, None, Err, refl, sym, ap, ◌∙◌, arith, drop-cons, add-one}
+use Rattle.std.proofs.Common.{◌≡◌, ℕ, ◌+◌, ◌-◌, ◌*◌, ◌^◌, ◌<◌, Bool, true, false, cond, ltb, List, ◌∷◌, length, drop, get_or, Some, None, refl, sym, ap, ◌∙◌, arith, drop-cons, add-one}
 use Rattle.std.proofs.lemmas.Bool.Decides.{nat_tests}
 use Rattle.std.proofs.lemmas.Str.{IsCharBoundary-after_ascii}
 use Rattle.std.specs.Str.{IsCharBoundary, IsUtf8}
 use Rattle.cbt_lex.specs.Decimals.{is_digit}
-use Rattle.cbt_syntax.specs.declared.fault.SyntaxFault.TheVariants.{NotWhole}
 use Rattle.cbt_syntax.specs.Readings.{Read}
 use Rattle.cbt_syntax.specs.Numbers.{digits}
 

@@ -1,12 +1,10 @@
 -- What follows a term in a canonical text: nothing, a sign, or a byte that ends the expression.
-use Rattle.std.proofs.Common.{◌≡◌, ℕ, zero, suc, ◌+◌, Bool, true, false, cond, ◌||◌, eqb, List, [], ◌∷◌, ◌++◌, length, Some, None, Ok, Err, refl, sym, ap, ◌∙◌, arith}
+use Rattle.std.proofs.Common.{◌≡◌, ℕ, ◌+◌, Bool, true, false, cond, ◌||◌, eqb, List, [], ◌∷◌, None, Ok, refl, ap, arith}
 use Rattle.std.proofs.lemmas.Bool.Decides.{nat_tests}
 use Rattle.std.specs.List.{prefix_len}
 use Rattle.cbt_lex.specs.Decimals.{is_digit}
 use Rattle.cbt_lex.specs.Lines.{skip_spaces}
 use Rattle.cbt_lex.specs.Names.{is_name_byte}
-use Rattle.cbt_expr.specs.declared.expressions.Sign.{Sign}
-use Rattle.cbt_syntax.specs.declared.fault.SyntaxFault.TheVariants.{NotWhole}
 use Rattle.cbt_syntax.specs.declared.references.Within.TheVariants.{Steps}
 use Rattle.cbt_syntax.specs.Numbers.{digits, goes_on}
 use Rattle.cbt_syntax.specs.References.{stops, led_to, path_end}

@@ -1,13 +1,13 @@
 -- The text of an expression, term after term.
-use Rattle.std.proofs.Common.{◌≡◌, ℕ, ◌≤◌, List, [], ◌∷◌, ◌++◌, length, drop, refl, sym, ap, ◌∙◌, arith, append_assoc, append-nil}
+use Rattle.std.proofs.Common.{◌≡◌, ℕ, ◌≤◌, List, [], ◌∷◌, ◌++◌, length, drop, sym, ap, ◌∙◌, append_assoc, append-nil}
 use Rattle.std.proofs.lemmas.List.{drop_all}
 use Rattle.std.specs.Prelude.{Result, Ok, Err, OnOk}
 use Rattle.cbt_expr.specs.declared.expressions.Sign.{Sign}
 use Rattle.cbt_expr.specs.declared.expressions.Expr.{Expr}
 use Rattle.cbt_expr.specs.declared.expressions.Term.{Term}
-use Rattle.cbt_expr.specs.Forms.{Form, one, joined, TermForm, joined_all, form_of, term_form, terms_form}
+use Rattle.cbt_expr.specs.Forms.{Form, one, joined, TermForm, joined_all, term_form, terms_form}
 use Rattle.cbt_expr.proofs.Views.{form_of-terms}
-use Rattle.cbt_syntax.specs.Texts.{form_text, term_text, sign_text, joins_text, expr_text}
+use Rattle.cbt_syntax.specs.Texts.{form_text, term_text, joins_text, expr_text}
 
 pub on_ok : {A E P Q : Type 0} (r : Result A E) → OnOk r P → (P → Q) → OnOk r Q
 on_ok (Ok x) p f = f p

@@ -1,11 +1,10 @@
 -- The text of a name and of a path is read as it.
-use Rattle.std.proofs.Common.{◌≡◌, ℕ, zero, suc, ◌+◌, ◌/◌, ◌%◌, ◌^◌, ◌<◌, ◌≤◌, Bool, true, false, cond, not, ◌&&◌, ◌||◌, eqb, ltb, leb, List, [], ◌∷◌, ◌++◌, length, take, drop, Option, Some, None, Result, Ok, Err, refl, sym, subst, ap, ◌∙◌, arith, append_assoc, append-nil, decimal, length-append}
+use Rattle.std.proofs.Common.{◌≡◌, ℕ, ◌+◌, ◌%◌, ◌^◌, ◌<◌, ◌≤◌, Bool, true, false, cond, not, ◌&&◌, eqb, ltb, leb, List, [], ◌∷◌, ◌++◌, length, take, drop, Option, Some, None, Result, Ok, Err, refl, subst, ap, ◌∙◌, arith, append_assoc, decimal, length-append}
 use Rattle.std.proofs.lemmas.Bool.{and_parts, and_from}
 use Rattle.std.proofs.lemmas.Bool.Decides.{nat_tests}
 use Rattle.std.proofs.lemmas.Fmt.{decimal_by_steps}
 use Rattle.std.proofs.Math.Seq.{take-append_seam, drop-append_seam}
 use Rattle.std.specs.List.{prefix_len, list_all}
-use Rattle.cbt_lex.specs.Decimals.{is_digit}
 use Rattle.cbt_lex.specs.Names.{is_lower, is_name, is_name_byte}
 use Rattle.cbt_subdoc.specs.declared.path.Part.{Part}
 use Rattle.cbt_subdoc.specs.declared.path.Part.TheVariants.{Name, Place, Last}
@@ -19,7 +18,7 @@ use Rattle.cbt_subdoc.proofs.PartTexts.{IsNameable}
 use Rattle.cbt_syntax.specs.declared.fault.SyntaxFault.TheVariants.{Malformed, Unbound}
 use Rattle.cbt_syntax.specs.declared.references.Within.{Within}
 use Rattle.cbt_syntax.specs.declared.references.Within.TheVariants.{Steps, Ticks, Brackets}
-use Rattle.cbt_syntax.specs.Readings.{Outcome, ◌>>=◌}
+use Rattle.cbt_syntax.specs.Readings.{◌>>=◌}
 use Rattle.cbt_syntax.specs.References.{is_word_byte, stops, led_to, path_end, as_path, named_path, path_in, path_at, name_of, name_at}
 use Rattle.cbt_syntax.specs.Rules.{IsMaybePath}
 use Rattle.cbt_syntax.specs.Texts.{is_word, name_text, part_text, path_text, maybe_path_text}

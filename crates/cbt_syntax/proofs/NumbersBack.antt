@@ -1,12 +1,12 @@
 -- The text of a whole number is read as it.
-use Rattle.std.proofs.Common.{◌≡◌, ℕ, ℤ, pos, negsuc, neg_ℤ, zero, suc, ◌+◌, ◌-◌, ◌*◌, ◌/◌, ◌%◌, ◌^◌, ◌<◌, ◌≤◌, Bool, true, false, cond, ◌||◌, eqb, ltb, List, [], ◌∷◌, ◌++◌, Ok, Err, refl, sym, ap, ◌∙◌, arith, append_assoc, decimal}
+use Rattle.std.proofs.Common.{◌≡◌, ℕ, ℤ, pos, negsuc, neg_ℤ, zero, suc, ◌+◌, ◌-◌, ◌*◌, ◌/◌, ◌%◌, ◌^◌, ◌<◌, ◌≤◌, true, false, cond, ◌||◌, eqb, ltb, List, [], ◌∷◌, ◌++◌, Ok, Err, refl, sym, ap, ◌∙◌, arith, append_assoc, decimal}
 use Rattle.std.proofs.lemmas.Bool.{ne_eqb, lt-ltb}
 use Rattle.std.proofs.lemmas.Bool.Decides.{nat_tests}
 use Rattle.std.proofs.lemmas.Fmt.{decimal_by_steps}
 use Rattle.cbt_lex.specs.Decimals.{is_digit}
 use Rattle.cbt_syntax.specs.declared.fault.SyntaxFault.TheVariants.{NotWhole, Malformed}
-use Rattle.cbt_syntax.specs.Readings.{Read, ◌>>=◌}
-use Rattle.cbt_syntax.specs.Numbers.{digits, decimal_at, goes_on, ended, negative_at, positive_at, number_at}
+use Rattle.cbt_syntax.specs.Readings.{◌>>=◌}
+use Rattle.cbt_syntax.specs.Numbers.{digits, decimal_at, ended, negative_at, positive_at, number_at}
 use Rattle.cbt_syntax.proofs.Ends.{Ends, digits-end, goes_on-end}
 
 digit : (n : ℕ) → n < 10 → is_digit (48 + n) ≡ true

@@ -5,12 +5,12 @@ use Rattle.cbt_json.specs.declared.tree.Tree.{Tree}
 use Rattle.cbt_json.specs.declared.tree.Tree.TheVariants as t
 use Rattle.cbt_json.specs.Rules.{IsJson, is_in_range, is_whole, is_regular, max_levels}
 use Rattle.serde_json.specs.Data.{Data, depth}
-use Rattle.cbt_json.specs.Trees.{data_of, levels, number_of_whole}
+use Rattle.cbt_json.specs.Trees.{data_of, number_of_whole}
 use Rattle.cbt_json.proofs.Views.{data_of-Null, data_of-Bool, data_of-Whole, data_of-Text}
 use Rattle.cbt_lex.specs.Decimals.{is_digit}
 use Rattle.cbt_syntax.specs.declared.fault.SyntaxFault.TheVariants.{NotWhole}
-use Rattle.cbt_syntax.specs.Readings.{Outcome, Read, ◌>>=◌}
-use Rattle.cbt_syntax.specs.Numbers.{digits, decimal_at, goes_on, ended, negative_at, positive_at, number_at}
+use Rattle.cbt_syntax.specs.Readings.{Read, ◌>>=◌}
+use Rattle.cbt_syntax.specs.Numbers.{digits, decimal_at, goes_on, ended, negative_at, number_at}
 
 by_data : (tree : Tree) (d : Data) → data_of tree ≡ d → depth d ≤ 127 → is_regular d ≡ true → IsJson tree
 by_data tree d is few rule = subst (λ x. (depth x ≤ max_levels) × (is_regular x ≡ true)) (sym is) (few, rule)

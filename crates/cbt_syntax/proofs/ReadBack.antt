@@ -1,5 +1,5 @@
 -- The text of an expression or a condition, as a whole, is read as it.
-use Rattle.std.proofs.Common.{◌≡◌, ℕ, Bool, true, false, cond, eqb, leb, ◌&&◌, List, [], ◌∷◌, ◌++◌, length, codes, Option, Some, None, Ok, Err, refl, sym, subst, ap, ◌∙◌, append-nil, arith}
+use Rattle.std.proofs.Common.{◌≡◌, ℕ, Bool, true, false, cond, eqb, leb, ◌&&◌, List, [], ◌∷◌, ◌++◌, length, codes, Option, Some, None, Ok, Err, refl, sym, ap, ◌∙◌, append-nil, arith}
 use Rattle.std.proofs.lemmas.Bool.{and_parts}
 use Rattle.std.proofs.lemmas.Bool.Decides.{nat_tests}
 use Rattle.std.specs.List.{list_all}
@@ -11,7 +11,7 @@ use Rattle.cbt_expr.specs.declared.expressions.Cmp.TheVariants.{Eq, Ne, Lt, Le, 
 use Rattle.cbt_expr.specs.declared.expressions.Cond.{Cond}
 use Rattle.cbt_expr.specs.declared.expressions.Cond.TheVariants.{Compare, Has, Lacks}
 use Rattle.cbt_syntax.specs.declared.fault.SyntaxFault.TheVariants.{Malformed, Unbound}
-use Rattle.cbt_syntax.specs.Readings.{Read, ◌>>=◌}
+use Rattle.cbt_syntax.specs.Readings.{◌>>=◌}
 use Rattle.cbt_syntax.specs.Pieces.{behind}
 use Rattle.cbt_syntax.specs.Terms.{word_at, scalar_at, plain_at, joined_from, expr_by, term_by, term_at, expr_at}
 use Rattle.cbt_syntax.specs.Conditions.{nothing_behind, cmp_at, max_levels, whole_expr, comparison, whole_name, has, lacks, asked, whole_cond}
@@ -19,8 +19,8 @@ use Rattle.cbt_syntax.specs.Whole.{decided, any_name, expr_of, cond_of}
 use Rattle.cbt_syntax.specs.Texts.{expr_text, cmp_text, cond_text}
 use Rattle.cbt_syntax.specs.Rules.{IsBoundName, IsExpr, IsCond}
 use Rattle.cbt_syntax.proofs.Ends.{Stops}
-use Rattle.cbt_syntax.proofs.Behind.{behind-found, behind-split}
-use Rattle.cbt_syntax.proofs.TermsBack.{not_byte, Shape, shape, expr-none, expr-unspaced, expr-back}
+use Rattle.cbt_syntax.proofs.Behind.{behind-split}
+use Rattle.cbt_syntax.proofs.TermsBack.{not_byte, shape, expr-none, expr-unspaced, expr-back}
 
 plain-some : (rest : List ℕ) → plain_at (codes "some " ++ rest) ≡ Err Malformed
 unfolding plain_at scalar_at word_at

@@ -1,14 +1,13 @@
 -- The text of a string is read as it.
-use Rattle.std.proofs.Common.{◌≡◌, ◌≢◌, ℕ, ◌+◌, ◌<◌, ◌/◌, ◌%◌, Bool, true, false, cond, not, ◌&&◌, ◌||◌, eqb, ltb, List, [], ◌∷◌, ◌++◌, length, take, drop, Some, Ok, refl, sym, ap, ◌∙◌, arith, rules, append_assoc, length-append}
+use Rattle.std.proofs.Common.{◌≡◌, ℕ, ◌+◌, ◌/◌, ◌%◌, Bool, true, false, cond, ◌||◌, eqb, ltb, List, [], ◌∷◌, ◌++◌, length, take, drop, Some, Ok, refl, sym, ap, ◌∙◌, arith, rules, append_assoc, length-append}
 use Rattle.std.proofs.lemmas.Bool.{eqb-true}
 use Rattle.std.proofs.Math.Seq.{take-append_seam, drop-append_seam}
 use Rattle.std.proofs.lemmas.Bool.Decides.{nat_tests}
 use Rattle.std.specs.Char.{digit_char}
 use Rattle.json.specs.Print.{escape_letter, escape_byte, escape, quoted}
-use Rattle.cbt_json.specs.declared.tree.Tree.{Tree, out-Tree, the_lemmas}
+use Rattle.cbt_json.specs.declared.tree.Tree.{out-Tree, the_lemmas}
 use Rattle.cbt_json.specs.declared.tree.Tree.TheOpen.{Tree-F}
 use Rattle.cbt_json.specs.declared.tree.Tree.TheVariants as t
-use Rattle.cbt_json.specs.Trees.{text_of}
 use Rattle.cbt_json.specs.Reading.{json_of}
 use Rattle.serde_json.specs.Written.{compact_text}
 use Rattle.cbt_json.proofs.Views.{data_of-Text}

@@ -1,8 +1,7 @@
 -- The text of a term and of an expression is read as it.
-use Rattle.std.proofs.Common.{◌≡◌, ℕ, ℤ, pos, negsuc, zero, suc, ◌+◌, ◌^◌, ◌<◌, ◌≤◌, Bool, true, false, cond, eqb, List, [], ◌∷◌, ◌++◌, length, map, Option, Some, None, Ok, Err, refl, sym, subst, ap, ap₂, ◌∙◌, arith, rules, append_assoc, append-nil, decimal, length-append}
+use Rattle.std.proofs.Common.{◌≡◌, ℕ, ℤ, pos, negsuc, zero, suc, ◌^◌, ◌<◌, ◌≤◌, Bool, true, false, cond, eqb, List, [], ◌∷◌, ◌++◌, length, map, Option, Some, None, Ok, Err, refl, sym, subst, ap, ◌∙◌, arith, rules, append_assoc, append-nil, decimal, length-append}
 use Rattle.std.proofs.lemmas.Bool.{eqb-true}
 use Rattle.std.proofs.lemmas.Bool.Decides.{nat_tests}
-use Rattle.std.specs.List.{prefix_len}
 use Rattle.std.specs.Map.{keys_of}
 use Rattle.std.specs.Ordering.{nat_cmp}
 use Rattle.std.specs.Cmp.Lexicographic.{slice_cmp, nat_list_cmp_total}
@@ -19,26 +18,24 @@ use Rattle.cbt_json.proofs.Views.{data_of-Text}
 use Rattle.cbt_json.proofs.Inverse.{tree_of-data_of}
 use Rattle.cbt_lex.specs.Decimals.{is_digit}
 use Rattle.cbt_lex.specs.Lines.{skip_spaces}
-use Rattle.cbt_lex.specs.Names.{is_name_byte}
 use Rattle.cbt_subdoc.specs.declared.path.Path.{Path}
 use Rattle.cbt_expr.specs.declared.expressions.Expr.{Expr, Expr-F, ind-Expr, roll-Expr, map-Expr, the_lemmas}
 use Rattle.cbt_expr.specs.declared.expressions.Term.{Term, Term-F, roll-Term, map-Term}
 use Rattle.cbt_expr.specs.declared.expressions.Term.TheVariants as t
 use Rattle.cbt_expr.specs.declared.expressions.Sign.{Sign}
 use Rattle.cbt_expr.specs.declared.expressions.Sign.TheVariants.{Plus, Minus}
-use Rattle.cbt_expr.specs.Forms.{Form, one, joined, TermForm, plain, list, object, reference, Items, Members, joined_all, form_of, term_form, terms_form, items_form, members_form}
+use Rattle.cbt_expr.specs.Forms.{Form, one, joined, TermForm, plain, list, object, reference, joined_all, form_of, term_form, terms_form, items_form, members_form}
 use Rattle.cbt_expr.proofs.Views.{form_of-terms, term_form-Members}
 use Rattle.cbt_syntax.specs.declared.fault.SyntaxFault.TheVariants.{Malformed}
 use Rattle.cbt_syntax.specs.Readings.{Read, ◌>>=◌}
 use Rattle.cbt_syntax.specs.Numbers.{number_at}
-use Rattle.cbt_syntax.specs.References.{name_at, path_at}
+use Rattle.cbt_syntax.specs.References.{path_at}
 use Rattle.cbt_syntax.specs.Terms.{word_at, text_at, whole_at, scalar_at, plain_at, reference_at, past, goes_on, sign_at, by_sign, items_from, list_at, member_at, members_from, object_at, joined_from, expr_by, term_by, too_deep, term_at, expr_at}
-use Rattle.cbt_syntax.specs.Strings.{string_at}
-use Rattle.cbt_syntax.specs.Texts.{sign_text, string_text, comma, term_text, form_text, items_text, members_text, joins_text, expr_text, maybe_path_text}
+use Rattle.cbt_syntax.specs.Texts.{sign_text, string_text, term_text, items_text, members_text, joins_text, expr_text, maybe_path_text}
 use Rattle.cbt_syntax.specs.Rules.{is_scalar, names_of, IsMaybePath, IsBoundName, IsForm, IsTerm, AreItems, AreMembers}
 use Rattle.cbt_syntax.proofs.Ends.{Ends, Stops, stops-ends, spaces-end, sign-stop}
 use Rattle.cbt_syntax.proofs.StringsBack.{string_text-quoted, string_at-text}
-use Rattle.cbt_syntax.proofs.NumbersBack.{Begins, decimal-begins, number_at-positive, number_at-negative}
+use Rattle.cbt_syntax.proofs.NumbersBack.{decimal-begins, number_at-positive, number_at-negative}
 use Rattle.cbt_syntax.proofs.NamesBack.{name_at-text, maybe-path-text, maybe-path-no-name}
 use Rattle.cbt_syntax.proofs.Joins.{expr-text}
 

@@ -1,5 +1,5 @@
 -- What is read keeps the rules.
-use Rattle.std.proofs.Common.{◌≡◌, ℕ, ℤ, pos, negsuc, zero, suc, Bool, true, false, cond, not, eqb, List, [], ◌∷◌, ◌++◌, length, take, drop, codes, map, Option, Some, None, Result, Ok, Err, refl, sym, subst, ap, ◌∙◌, rules}
+use Rattle.std.proofs.Common.{◌≡◌, ℕ, ℤ, pos, negsuc, zero, suc, Bool, true, false, cond, not, eqb, List, [], ◌∷◌, ◌++◌, length, take, drop, codes, Option, Some, None, Ok, Err, refl, sym, subst, ap, ◌∙◌, rules}
 use Rattle.std.specs.List.{prefix_len}
 use Rattle.std.specs.declared.cmp.Ordering.{Ordering}
 use Rattle.std.specs.declared.cmp.Ordering.TheVariants.{Less, Equal, Greater}
@@ -11,8 +11,8 @@ use Rattle.std.specs.BTreeMap.{insert_entry}
 use Rattle.cbt_base.specs.Keyed.{with_pair}
 use Rattle.cbt_json.specs.declared.tree.Tree.{Tree}
 use Rattle.cbt_json.specs.declared.tree.Tree.TheVariants as tree
-use Rattle.cbt_json.specs.Trees.{data_of, number_of_whole}
-use Rattle.cbt_json.specs.Rules.{is_in_range, is_whole}
+use Rattle.cbt_json.specs.Trees.{data_of}
+use Rattle.cbt_json.specs.Rules.{is_in_range}
 use Rattle.cbt_json.proofs.Views.{data_of-Null, data_of-Bool, data_of-Whole, data_of-Text}
 use Rattle.cbt_lex.specs.Decimals.{is_digit}
 use Rattle.cbt_lex.specs.Lines.{skip_spaces}
@@ -23,7 +23,7 @@ use Rattle.cbt_expr.specs.declared.expressions.Expr.{Expr, roll-Expr, the_lemmas
 use Rattle.cbt_expr.specs.declared.expressions.Term.{Term}
 use Rattle.cbt_expr.specs.declared.expressions.Term.TheVariants as t
 use Rattle.cbt_expr.specs.declared.expressions.Sign.{Sign}
-use Rattle.cbt_expr.specs.Forms.{Form, one, joined, TermForm, plain, list, object, reference, joined_all, form_of, term_form, terms_form, items_form, members_form}
+use Rattle.cbt_expr.specs.Forms.{Form, one, joined, plain, list, reference, joined_all, form_of, term_form, terms_form, items_form, members_form}
 use Rattle.cbt_expr.proofs.Views.{form_of-terms, term_form-Members}
 use Rattle.cbt_syntax.specs.declared.fault.SyntaxFault.TheVariants.{NotWhole, Malformed, Unbound, NoMemory}
 use Rattle.cbt_syntax.specs.declared.references.Within.TheVariants.{Steps}

@@ -1,5 +1,5 @@
 -- Conditions, which are whole texts.
-use Rattle.std.specs.Prelude.{ℕ, Bool, ◌==◌, if◌then◌else◌, List, [], ◌∷◌, codes, Option, Some, None, Ok, Err}
+use Rattle.std.specs.Prelude.{ℕ, Bool, if◌then◌else◌, List, [], ◌∷◌, codes, Option, Some, None, Ok, Err}
 use Rattle.cbt_lex.specs.Lines.{skip_spaces}
 use Rattle.cbt_lex.specs.Names.{is_name}
 use Rattle.cbt_expr.specs.declared.expressions.Expr.{Expr}

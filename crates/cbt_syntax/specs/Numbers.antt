@@ -2,7 +2,7 @@
 use Rattle.std.specs.Prelude.{ℕ, ◌+◌, ◌-◌, ◌*◌, ◌^◌, ℤ, pos, neg_ℤ, Bool, false, ◌==◌, ◌||◌, nat_lt, if◌then◌else◌, List, [], ◌∷◌, Ok, Err}
 use Rattle.cbt_lex.specs.Decimals.{is_digit}
 use Rattle.cbt_syntax.specs.declared.fault.SyntaxFault.TheVariants.{NotWhole, Malformed}
-use Rattle.cbt_syntax.specs.Readings.{Outcome, Read, ◌>>=◌}
+use Rattle.cbt_syntax.specs.Readings.{Read, ◌>>=◌}
 
 -- the number below 2^64 that some digits make with those at the front
 abbrev pub digits : ℕ → List ℕ → Read ℕ

@@ -1,8 +1,7 @@
 -- References: a name, and a path into what is bound to it.
-use Rattle.std.specs.Prelude.{ℕ, ◌+◌, Bool, true, false, not, ◌==◌, ◌&&◌, ◌||◌, nat_le, if◌then◌else◌, List, [], ◌∷◌, take, drop, Option, Some, None, Result, Ok, Err}
+use Rattle.std.specs.Prelude.{ℕ, ◌+◌, Bool, false, not, ◌==◌, ◌&&◌, ◌||◌, nat_le, if◌then◌else◌, List, [], ◌∷◌, take, drop, Option, Some, None, Result, Ok, Err}
 use Rattle.std.specs.List.{prefix_len}
-use Rattle.cbt_lex.specs.Decimals.{is_digit}
-use Rattle.cbt_lex.specs.Names.{is_lower, is_name, is_name_byte}
+use Rattle.cbt_lex.specs.Names.{is_name, is_name_byte}
 use Rattle.cbt_subdoc.specs.declared.path.Part.{Part}
 use Rattle.cbt_subdoc.specs.declared.path.PathFault.{PathFault}
 use Rattle.cbt_subdoc.specs.Paths.{path_of}

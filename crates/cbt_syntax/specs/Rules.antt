@@ -4,7 +4,6 @@ use Rattle.std.specs.Ordering.{nat_cmp}
 use Rattle.std.specs.Cmp.Lexicographic.{slice_cmp}
 use Rattle.std.specs.List.Sorted.{IsStrictlySortedBy}
 use Rattle.serde_json.specs.Data.{Data, null, boolean, number, string, array, object as object_data}
-use Rattle.cbt_json.specs.declared.value.Json.{Json}
 use Rattle.cbt_json.specs.Trees.{data_of}
 use Rattle.cbt_json.specs.Rules.{is_whole}
 use Rattle.cbt_lex.specs.Names.{is_name}

@@ -2,7 +2,7 @@
 use Rattle.std.specs.Prelude.{ℕ, Bool, true, List, Ok, Err}
 use Rattle.cbt_expr.specs.declared.expressions.Expr.{Expr}
 use Rattle.cbt_expr.specs.declared.expressions.Cond.{Cond}
-use Rattle.cbt_syntax.specs.declared.fault.SyntaxFault.TheVariants.{NotWhole, Malformed, Unbound, NoMemory}
+use Rattle.cbt_syntax.specs.declared.fault.SyntaxFault.TheVariants.{Unbound}
 use Rattle.cbt_syntax.specs.Readings.{Outcome}
 use Rattle.cbt_syntax.specs.Conditions.{whole_expr, whole_cond}
 

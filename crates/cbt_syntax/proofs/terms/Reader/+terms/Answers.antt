@@ -1,8 +1,8 @@
 use Rattle.std.proofs.Common.{rules, arith}
 use Rattle.std.proofs.lemmas.Grind.{common_steps}
 use Rattle.cbt_syntax.specs.Bound.{is_taken}
-use Rattle.cbt_syntax.specs.Terms.{term_at, expr_at, items_from, members_from, joined_from, term_by}
-use Rattle.cbt_syntax.proofs.Turns.{one_more, no_more}
+use Rattle.cbt_syntax.specs.Terms.{term_at, expr_at, items_from, members_from, joined_from}
+use Rattle.cbt_syntax.proofs.Turns.{one_more}
 use Rattle.cbt_syntax.proofs.terms.Reader.+terms.Goals as goal
 
 pub items-returns-in_err-item : goal.items-returns-in_err-item
