@@ -14,7 +14,7 @@ use cbt_lex::{is_a_name, past_spaces};
 /// How many levels of lists and objects an expression may have.
 const MAX_LEVELS: u32 = 127;
 
-impl Reader<'_> {
+impl<V> Reader<'_, V> {
     /// An expression and nothing more.
     #[tactic(auto, unfolding(crate::specs::Conditions::whole_expr))]
     pub(crate) fn whole_expr(&self, text: &str) -> Result<Expr, SyntaxFault>

@@ -8,25 +8,25 @@ use cbt_base::{Map, Text};
 use cbt_expr::{Cond, Expr};
 use std::alloc::Global;
 
-/// Reads an expression, which is the whole text; `bound` has the names that it may refer to.
-pub fn read_expr(alloc: Global, text: &str, bound: &Map<Text, ()>) -> Result<Expr, SyntaxFault>
+/// Reads an expression, which is the whole text. The names that it may refer to are the keys of
+/// `bound`.
+pub fn read_expr<V>(alloc: Global, text: &str, bound: &Map<Text, V>) -> Result<Expr, SyntaxFault>
     // So a text has one answer, unless memory runs out.
     ensures answer { (result ≡ expr_of (is_bound_in bound.now) text.now) ⊎ (result ≡ Err SyntaxFault.NoMemory) }
 {
-    let read = Reader {
+    let strict = Reader {
         alloc,
         bound,
         every: false,
-    }
-    .whole_expr(text);
-    match read {
-        Err(SyntaxFault::Unbound) => match (Reader {
-            alloc,
-            bound,
-            every: true,
-        })
-        .whole_expr(text)
-        {
+    };
+    let free = Reader {
+        alloc,
+        bound,
+        every: true,
+    };
+    match strict.whole_expr(text) {
+        // The name counts only where the text reads when every name counts as bound.
+        Err(SyntaxFault::Unbound) => match free.whole_expr(text) {
             Ok(_) => Err(SyntaxFault::Unbound),
             Err(fault) => Err(fault),
         },
@@ -34,24 +34,24 @@ pub fn read_expr(alloc: Global, text: &str, bound: &Map<Text, ()>) -> Result<Exp
     }
 }
 
-/// Reads a condition, which is the whole text; `bound` has the names that it may refer to.
-pub fn read_cond(alloc: Global, text: &str, bound: &Map<Text, ()>) -> Result<Cond, SyntaxFault>
+/// Reads a condition, which is the whole text. The names that it may refer to are the keys of
+/// `bound`.
+pub fn read_cond<V>(alloc: Global, text: &str, bound: &Map<Text, V>) -> Result<Cond, SyntaxFault>
     ensures answer { (result ≡ cond_of (is_bound_in bound.now) text.now) ⊎ (result ≡ Err SyntaxFault.NoMemory) }
 {
-    let read = Reader {
+    let strict = Reader {
         alloc,
         bound,
         every: false,
-    }
-    .whole_cond(text);
-    match read {
-        Err(SyntaxFault::Unbound) => match (Reader {
-            alloc,
-            bound,
-            every: true,
-        })
-        .whole_cond(text)
-        {
+    };
+    let free = Reader {
+        alloc,
+        bound,
+        every: true,
+    };
+    match strict.whole_cond(text) {
+        // The name counts only where the text reads when every name counts as bound.
+        Err(SyntaxFault::Unbound) => match free.whole_cond(text) {
             Ok(_) => Err(SyntaxFault::Unbound),
             Err(fault) => Err(fault),
         },

@@ -17,16 +17,16 @@ use std::alloc::Global;
 use std::collections::BTreeMap;
 
 /// What a reading goes by.
-#[derive(Clone, Copy)]
-pub(crate) struct Reader<'a> {
-    pub alloc: Global,
-    /// The names that are bound.
-    pub bound: &'a Map<Text, ()>,
+#[derive(Drop)]
+pub(crate) struct Reader<'a, V> {
+    pub(crate) alloc: Global,
+    /// Its keys are the names that are bound.
+    pub(crate) bound: &'a Map<Text, V>,
     /// Whether every name counts as bound.
-    pub every: bool,
+    pub(crate) every: bool,
 }
 
-impl Reader<'_> {
+impl<V> Reader<'_, V> {
     /// An expression in which so many levels of lists and objects may nest, and what stands behind it.
     #[tactic(auto, unfolding(crate::specs::Terms::expr_by))]
     #[cycle(terms)]
