@@ -10,6 +10,7 @@ pub mod Ends
 pub mod StringsBack
 pub mod NumbersBack
 pub mod NamesBack
+pub mod Shapes
 pub mod TermsBack
 pub mod ReadBack
 pub mod Inserted

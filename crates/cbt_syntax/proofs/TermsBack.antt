@@ -1,8 +1,7 @@
 -- The text of a term and of an expression is read as it.
-use Rattle.std.proofs.Common.{◌≡◌, ℕ, ℤ, pos, negsuc, zero, suc, ◌^◌, ◌<◌, ◌≤◌, Bool, true, false, cond, eqb, List, [], ◌∷◌, ◌++◌, length, map, Option, Some, None, Ok, Err, refl, sym, subst, ap, ◌∙◌, arith, rules, append_assoc, append-nil, decimal, length-append}
+use Rattle.std.proofs.Common.{◌≡◌, ℕ, ℤ, pos, negsuc, zero, suc, ◌^◌, ◌<◌, ◌≤◌, Bool, true, false, cond, eqb, List, [], ◌∷◌, ◌++◌, length, map, Option, Some, None, Ok, Err, refl, sym, subst, ap, ◌∙◌, arith, append_assoc, append-nil, decimal, length-append}
 use Rattle.std.proofs.lemmas.Bool.{eqb-true}
 use Rattle.std.proofs.lemmas.Bool.Decides.{nat_tests}
-use Rattle.std.specs.Map.{keys_of}
 use Rattle.std.specs.Ordering.{nat_cmp}
 use Rattle.std.specs.Cmp.Lexicographic.{slice_cmp, nat_list_cmp_total}
 use Rattle.std.specs.List.Sorted.{IsStrictlySortedBy}
@@ -19,7 +18,7 @@ use Rattle.cbt_json.proofs.Inverse.{tree_of-data_of}
 use Rattle.cbt_lex.specs.Decimals.{is_digit}
 use Rattle.cbt_lex.specs.Lines.{skip_spaces}
 use Rattle.cbt_subdoc.specs.declared.path.Path.{Path}
-use Rattle.cbt_expr.specs.declared.expressions.Expr.{Expr, Expr-F, ind-Expr, roll-Expr, map-Expr, the_lemmas}
+use Rattle.cbt_expr.specs.declared.expressions.Expr.{Expr, Expr-F, ind-Expr, roll-Expr, map-Expr}
 use Rattle.cbt_expr.specs.declared.expressions.Term.{Term, Term-F, roll-Term, map-Term}
 use Rattle.cbt_expr.specs.declared.expressions.Term.TheVariants as t
 use Rattle.cbt_expr.specs.declared.expressions.Sign.{Sign}
@@ -33,6 +32,7 @@ use Rattle.cbt_syntax.specs.References.{path_at}
 use Rattle.cbt_syntax.specs.Terms.{word_at, text_at, whole_at, scalar_at, plain_at, reference_at, past, goes_on, sign_at, by_sign, items_from, list_at, member_at, members_from, object_at, joined_from, expr_by, term_by, too_deep, term_at, expr_at}
 use Rattle.cbt_syntax.specs.Texts.{sign_text, string_text, term_text, items_text, members_text, joins_text, expr_text, maybe_path_text}
 use Rattle.cbt_syntax.specs.Rules.{is_scalar, names_of, IsMaybePath, IsBoundName, IsForm, IsTerm, AreItems, AreMembers}
+use Rattle.cbt_syntax.proofs.Shapes.{term_form-Plain, term_form-Items, term_form-Ref, names-keys}
 use Rattle.cbt_syntax.proofs.Ends.{Ends, Stops, stops-ends, spaces-end, sign-stop}
 use Rattle.cbt_syntax.proofs.StringsBack.{string_text-quoted, string_at-text}
 use Rattle.cbt_syntax.proofs.NumbersBack.{decimal-begins, number_at-positive, number_at-negative}
@@ -337,10 +337,6 @@ module _ (bound : List ℕ → Bool) where
   length-pairs [] = refl
   length-pairs (m ∷ ms) = ap suc (length-pairs ms)
 
-  names-keys : (ms : List (List ℕ × Expr)) → names_of (members_form ms) ≡ keys_of ms
-  names-keys [] = refl
-  names-keys (m ∷ ms) = ap (λ ks. m.0 ∷ ks) (names-keys ms)
-
   object-back : (n : ℕ) (ms : List (List ℕ × BackExpr)) (rest : List ℕ) → IsStrictlySortedBy (slice_cmp nat_cmp) (names_of (members_form (pairs ms)))
       → AreMembers bound n (members_form (pairs ms)) → Ends rest
       → object_at (expr_at bound n) (skip_spaces (members_text false (members_form (pairs ms)) ++ rest)) ≡ Ok (t.Members (pairs ms), rest)
@@ -376,15 +372,6 @@ module _ (bound : List ℕ → Bool) where
 
   -- ---- terms
 
-  form-Plain : (json : Tree) → term_form (t.Plain json) ≡ plain json
-  form-Plain json = search (rules, the_lemmas)
-
-  form-Items : (es : List Expr) → term_form (t.Items es) ≡ list (items_form es)
-  form-Items es = search (rules, the_lemmas)
-
-  form-Ref : (name : List ℕ) (path : Option Path) → term_form (t.Ref name path) ≡ reference name path
-  form-Ref name path = search (rules, the_lemmas)
-
   -- a claim on a term, by its form
   by_form : (x : Term) (form : TermForm) → term_form x ≡ form → ((n : ℕ) (rest : List ℕ) → IsTerm bound n form → Ends rest → term_at bound n (term_text form ++ rest) ≡ Ok (x, rest)) → TermBack x
   by_form x form is claim = subst (λ f. (n : ℕ) (rest : List ℕ) → IsTerm bound n f → Ends rest → term_at bound n (term_text f ++ rest) ≡ Ok (x, rest)) (sym is) claim
@@ -413,10 +400,10 @@ module _ (bound : List ℕ → Bool) where
       (shape n).same (64 ∷ ((name ++ maybe_path_text path) ++ rest)) ∙ reference-back name rest path is.0 is.1 ends
 
   term_level : (y : Term-F BackTerm BackExpr) → TermBack (roll-Term (map-Term BackTerm BackExpr Term Expr (λ e. e.0) (λ e. e.0) y))
-  term_level (Term-F.Plain json) = subst TermBack (sym (t.rolls-Plain json)) (by_form (t.Plain json) _ (form-Plain json) (plain-claim json))
-  term_level (Term-F.Items es) = subst TermBack (sym (t.rolls-Items (exprs es))) (by_form (t.Items (exprs es)) _ (form-Items (exprs es)) (items-claim es))
+  term_level (Term-F.Plain json) = subst TermBack (sym (t.rolls-Plain json)) (by_form (t.Plain json) _ (term_form-Plain json) (plain-claim json))
+  term_level (Term-F.Items es) = subst TermBack (sym (t.rolls-Items (exprs es))) (by_form (t.Items (exprs es)) _ (term_form-Items (exprs es)) (items-claim es))
   term_level (Term-F.Members ms) = subst TermBack (sym (t.rolls-Members (pairs ms))) (by_form (t.Members (pairs ms)) _ (term_form-Members (pairs ms)) (members-claim ms))
-  term_level (Term-F.Ref name path) = subst TermBack (sym (t.rolls-Ref name path)) (by_form (t.Ref name path) _ (form-Ref name path) (reference-claim name path))
+  term_level (Term-F.Ref name path) = subst TermBack (sym (t.rolls-Ref name path)) (by_form (t.Ref name path) _ (term_form-Ref name path) (reference-claim name path))
 
   -- ---- expressions
 

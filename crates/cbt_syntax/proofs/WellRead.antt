@@ -1,5 +1,5 @@
 -- What is read keeps the rules.
-use Rattle.std.proofs.Common.{◌≡◌, ℕ, ℤ, pos, negsuc, zero, suc, Bool, true, false, cond, not, eqb, List, [], ◌∷◌, ◌++◌, length, take, drop, codes, Option, Some, None, Ok, Err, refl, sym, subst, ap, ◌∙◌, rules}
+use Rattle.std.proofs.Common.{◌≡◌, ℕ, ℤ, pos, negsuc, zero, suc, Bool, true, false, cond, not, eqb, List, [], ◌∷◌, ◌++◌, length, take, drop, codes, Option, Some, None, Ok, Err, refl, sym, subst, ap, ◌∙◌}
 use Rattle.std.specs.List.{prefix_len}
 use Rattle.std.specs.declared.cmp.Ordering.{Ordering}
 use Rattle.std.specs.declared.cmp.Ordering.TheVariants.{Less, Equal, Greater}
@@ -18,12 +18,11 @@ use Rattle.cbt_lex.specs.Decimals.{is_digit}
 use Rattle.cbt_lex.specs.Lines.{skip_spaces}
 use Rattle.cbt_lex.specs.Names.{is_name, is_name_byte}
 use Rattle.cbt_subdoc.specs.declared.path.Part.{Part}
-use Rattle.cbt_subdoc.specs.declared.path.Path.{Path}
-use Rattle.cbt_expr.specs.declared.expressions.Expr.{Expr, roll-Expr, the_lemmas}
+use Rattle.cbt_expr.specs.declared.expressions.Expr.{Expr, roll-Expr}
 use Rattle.cbt_expr.specs.declared.expressions.Term.{Term}
 use Rattle.cbt_expr.specs.declared.expressions.Term.TheVariants as t
 use Rattle.cbt_expr.specs.declared.expressions.Sign.{Sign}
-use Rattle.cbt_expr.specs.Forms.{Form, one, joined, plain, list, reference, joined_all, form_of, term_form, terms_form, items_form, members_form}
+use Rattle.cbt_expr.specs.Forms.{Form, one, joined, joined_all, form_of, term_form, terms_form, items_form, members_form}
 use Rattle.cbt_expr.proofs.Views.{form_of-terms, term_form-Members}
 use Rattle.cbt_syntax.specs.declared.fault.SyntaxFault.TheVariants.{NotWhole, Malformed, Unbound, NoMemory}
 use Rattle.cbt_syntax.specs.declared.references.Within.TheVariants.{Steps}
@@ -36,7 +35,8 @@ use Rattle.cbt_syntax.specs.Terms.{word_or, word_at, text_at, whole_at, scalar_a
 use Rattle.cbt_expr.specs.declared.expressions.Cond.{Cond}
 use Rattle.cbt_syntax.specs.Conditions.{nothing_behind, cmp_at, max_levels, whole_expr, comparison, whole_name, has, lacks, asked, whole_cond}
 use Rattle.cbt_syntax.specs.Whole.{unbound_or, decided, any_name, expr_of, cond_of}
-use Rattle.cbt_syntax.specs.Rules.{is_scalar, names_of, IsMaybePath, IsBoundName, IsForm, IsTerm, AreItems, AreMembers, IsExpr, IsCond}
+use Rattle.cbt_syntax.specs.Rules.{is_scalar, IsMaybePath, IsBoundName, IsForm, IsTerm, AreItems, AreMembers, IsExpr, IsCond}
+use Rattle.cbt_syntax.proofs.Shapes.{term_form-Plain, term_form-Items, term_form-Ref, names-keys}
 use Rattle.cbt_syntax.proofs.Ranges.{InRange, number-range}
 use Rattle.cbt_syntax.proofs.CanonicalPaths.{Runs, runs-taken, canonical-path}
 use Rattle.cbt_syntax.proofs.Inserted.{rises-insert}
@@ -147,26 +147,17 @@ module _ (bound : List ℕ → Bool) where
   abbrev ExprKeeps : ℕ → Expr × List ℕ → Type 0
   ExprKeeps n x = IsForm bound n (form_of x.0)
 
-  form-Plain : (json : Tree) → term_form (t.Plain json) ≡ plain json
-  form-Plain json = search (rules, the_lemmas)
-
-  form-Items : (es : List Expr) → term_form (t.Items es) ≡ list (items_form es)
-  form-Items es = search (rules, the_lemmas)
-
-  form-Ref : (name : List ℕ) (path : Option Path) → term_form (t.Ref name path) ≡ reference name path
-  form-Ref name path = search (rules, the_lemmas)
-
   plain-keeps : (n : ℕ) (text : List ℕ) → Gives (TermKeeps n) (plain_at text)
   unfolding plain_at
   plain-keeps n text =
-      gives-bind IsScalar (TermKeeps n) (scalar_at text) _ (scalar-scalar text) (λ x is. subst (IsTerm bound n) (sym (form-Plain x.0)) is)
+      gives-bind IsScalar (TermKeeps n) (scalar_at text) _ (scalar-scalar text) (λ x is. subst (IsTerm bound n) (sym (term_form-Plain x.0)) is)
 
   reference-keeps : (n : ℕ) (text : List ℕ) → Gives (TermKeeps n) (reference_at bound text)
   unfolding reference_at
   reference-keeps n text =
       gives-bind NameKeeps (TermKeeps n) (name_at bound text) _ (name-rule text)
       (λ name known. gives-bind (λ x. IsMaybePath x.0) (TermKeeps n) (path_at name.1) _ (path-rule name.1)
-      (λ path is. subst (IsTerm bound n) (sym (form-Ref name.0 path.0)) (known, is)))
+      (λ path is. subst (IsTerm bound n) (sym (term_form-Ref name.0 path.0)) (known, is)))
 
   -- ---- lists
 
@@ -191,9 +182,9 @@ module _ (bound : List ℕ → Bool) where
     unfolding list_at
     list-keeps [] = tt
     list-keeps (b ∷ bs) =
-        gives-cond (TermKeeps (suc n)) (eqb b 93) _ _ (λ _. subst (IsTerm bound (suc n)) (sym (form-Items [])) tt)
+        gives-cond (TermKeeps (suc n)) (eqb b 93) _ _ (λ _. subst (IsTerm bound (suc n)) (sym (term_form-Items [])) tt)
         (λ _. gives-bind ItemsKeep (TermKeeps (suc n)) (items_from (expr_at bound n) (length (b ∷ bs)) [] (b ∷ bs)) _ (items-keep (length (b ∷ bs)) [] (b ∷ bs) tt)
-        (λ items are. subst (IsTerm bound (suc n)) (sym (form-Items items.0)) are))
+        (λ items are. subst (IsTerm bound (suc n)) (sym (term_form-Items items.0)) are))
 
     -- ---- objects
 
@@ -236,10 +227,6 @@ module _ (bound : List ℕ → Bool) where
         (λ next _. gives-cond MembersKeep next.0 _ _
         (λ _. members-keep turns (with_pair (slice_cmp nat_cmp) found m.0.0 m.0.1) next.1 (keep-insert found m.0.0 m.0.1 keep is))
         (λ _. keep-insert found m.0.0 m.0.1 keep is)))
-
-    names-keys : (ms : List (List ℕ × Expr)) → names_of (members_form ms) ≡ keys_of ms
-    names-keys [] = refl
-    names-keys (m ∷ ms) = ap (λ ks. m.0 ∷ ks) (names-keys ms)
 
     as-object : (ms : List (List ℕ × Expr)) → Keep ms → IsTerm bound (suc n) (term_form (t.Members ms))
     as-object ms keep =
