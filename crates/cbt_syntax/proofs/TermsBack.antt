@@ -29,7 +29,7 @@ use Rattle.cbt_syntax.specs.declared.fault.SyntaxFault.TheVariants.{Malformed}
 use Rattle.cbt_syntax.specs.Readings.{Read, ◌>>=◌}
 use Rattle.cbt_syntax.specs.Numbers.{number_at}
 use Rattle.cbt_syntax.specs.References.{path_at}
-use Rattle.cbt_syntax.specs.Terms.{word_at, text_at, whole_at, scalar_at, plain_at, reference_at, past, goes_on, sign_at, by_sign, items_from, list_at, member_at, members_from, object_at, joined_from, expr_by, term_by, too_deep, term_at, expr_at}
+use Rattle.cbt_syntax.specs.Terms.{word_at, text_at, whole_at, scalar_at, plain_at, reference_at, past, after_item, sign_at, by_sign, items_from, list_at, member_at, members_from, object_at, joined_from, expr_by, term_by, too_deep, term_at, expr_at}
 use Rattle.cbt_syntax.specs.Texts.{sign_text, string_text, term_text, items_text, members_text, joins_text, expr_text, maybe_path_text}
 use Rattle.cbt_syntax.specs.Rules.{is_scalar, names_of, IsMaybePath, IsBoundName, IsForm, IsTerm, AreItems, AreMembers}
 use Rattle.cbt_syntax.proofs.Shapes.{term_form-Plain, term_form-Items, term_form-Ref, names-keys}
@@ -196,11 +196,11 @@ module _ (bound : List ℕ → Bool) where
   items-stop [] rest = refl
   items-stop (e ∷ es) rest = refl
 
-  items-step : (n turns : ℕ) (found : List Expr) (text after next : List ℕ) (x : Expr) (more : Bool) → expr_at bound n text ≡ Ok (x, after) → goes_on 93 after ≡ Ok (more, next)
+  items-step : (n turns : ℕ) (found : List Expr) (text after next : List ℕ) (x : Expr) (more : Bool) → expr_at bound n text ≡ Ok (x, after) → after_item 93 after ≡ Ok (more, next)
       → items_from (expr_at bound n) (suc turns) found text ≡ cond more (items_from (expr_at bound n) turns (found ++ x ∷ []) next) (Ok (found ++ x ∷ [], next))
   unfolding items_from
   items-step n turns found text after next x more e g =
-      ap (λ r. r >>= (λ item. goes_on 93 item.1 >>= (λ next. cond next.0 (items_from (expr_at bound n) turns (found ++ item.0 ∷ []) next.1) (Ok (found ++ item.0 ∷ [], next.1))))) e
+      ap (λ r. r >>= (λ item. after_item 93 item.1 >>= (λ next. cond next.0 (items_from (expr_at bound n) turns (found ++ item.0 ∷ []) next.1) (Ok (found ++ item.0 ∷ [], next.1))))) e
       ∙ ap (λ r. r >>= (λ next. cond next.0 (items_from (expr_at bound n) turns (found ++ x ∷ []) next.1) (Ok (found ++ x ∷ [], next.1)))) g
 
   items-long : (es : List Expr) → length es < length (items_text true (items_form es))
@@ -284,12 +284,12 @@ module _ (bound : List ℕ → Bool) where
       ∙ ap (λ r. r >>= (λ x. Ok ((name, x.0), x.1))) read
 
   members-step : (n turns : ℕ) (found : List (List ℕ × Expr)) (text after next name : List ℕ) (x : Expr) (more : Bool)
-      → member_at (expr_at bound n) text ≡ Ok ((name, x), after) → goes_on 125 after ≡ Ok (more, next)
+      → member_at (expr_at bound n) text ≡ Ok ((name, x), after) → after_item 125 after ≡ Ok (more, next)
       → members_from (expr_at bound n) (suc turns) found text
       ≡ cond more (members_from (expr_at bound n) turns (with_pair (slice_cmp nat_cmp) found name x) next) (Ok (with_pair (slice_cmp nat_cmp) found name x, next))
   unfolding members_from
   members-step n turns found text after next name x more e g =
-      ap (λ r. r >>= (λ m. goes_on 125 m.1 >>= (λ next. cond next.0 (members_from (expr_at bound n) turns (with_pair (slice_cmp nat_cmp) found m.0.0 m.0.1) next.1) (Ok (with_pair (slice_cmp nat_cmp) found m.0.0 m.0.1, next.1))))) e
+      ap (λ r. r >>= (λ m. after_item 125 m.1 >>= (λ next. cond next.0 (members_from (expr_at bound n) turns (with_pair (slice_cmp nat_cmp) found m.0.0 m.0.1) next.1) (Ok (with_pair (slice_cmp nat_cmp) found m.0.0 m.0.1, next.1))))) e
       ∙ ap (λ r. r >>= (λ next. cond next.0 (members_from (expr_at bound n) turns (with_pair (slice_cmp nat_cmp) found name x) next.1) (Ok (with_pair (slice_cmp nat_cmp) found name x, next.1)))) g
 
   string-unspaced : (name after : List ℕ) → skip_spaces (string_text name ++ after) ≡ string_text name ++ after

@@ -31,7 +31,7 @@ use Rattle.cbt_syntax.specs.Pieces.{behind}
 use Rattle.cbt_syntax.specs.Strings.{string_at}
 use Rattle.cbt_syntax.specs.Numbers.{number_at}
 use Rattle.cbt_syntax.specs.References.{path_end, path_in, path_at, name_of, name_at}
-use Rattle.cbt_syntax.specs.Terms.{word_or, word_at, text_at, whole_at, scalar_at, plain_at, reference_at, past, goes_on, sign_at, by_sign, items_from, list_at, member_at, members_from, object_at, joined_from, expr_by, term_by, too_deep, term_at, expr_at}
+use Rattle.cbt_syntax.specs.Terms.{word_or, word_at, text_at, whole_at, scalar_at, plain_at, reference_at, past, after_item, sign_at, by_sign, items_from, list_at, member_at, members_from, object_at, joined_from, expr_by, term_by, too_deep, term_at, expr_at}
 use Rattle.cbt_expr.specs.declared.expressions.Cond.{Cond}
 use Rattle.cbt_syntax.specs.Conditions.{nothing_behind, cmp_at, max_levels, whole_expr, comparison, whole_name, has, lacks, asked, whole_cond}
 use Rattle.cbt_syntax.specs.Whole.{unbound_or, decided, any_name, expr_of, cond_of}
@@ -174,7 +174,7 @@ module _ (bound : List ℕ → Bool) where
     items-keep zero found text are = tt
     items-keep (suc turns) found text are =
         gives-bind (ExprKeeps n) ItemsKeep (expr_at bound n text) _ (inner text)
-        (λ item is. gives-bind (λ x. Unit {0}) ItemsKeep (goes_on 93 item.1) _ (gives-any (goes_on 93 item.1))
+        (λ item is. gives-bind (λ x. Unit {0}) ItemsKeep (after_item 93 item.1) _ (gives-any (after_item 93 item.1))
         (λ next _. gives-cond ItemsKeep next.0 _ _ (λ _. items-keep turns (found ++ item.0 ∷ []) next.1 (items-append n found item.0 are is))
         (λ _. items-append n found item.0 are is)))
 
@@ -223,7 +223,7 @@ module _ (bound : List ℕ → Bool) where
     members-keep zero found text keep = tt
     members-keep (suc turns) found text keep =
         gives-bind MemberKeeps MembersKeep (member_at (expr_at bound n) text) _ (member-keeps text)
-        (λ m is. gives-bind (λ x. Unit {0}) MembersKeep (goes_on 125 m.1) _ (gives-any (goes_on 125 m.1))
+        (λ m is. gives-bind (λ x. Unit {0}) MembersKeep (after_item 125 m.1) _ (gives-any (after_item 125 m.1))
         (λ next _. gives-cond MembersKeep next.0 _ _
         (λ _. members-keep turns (with_pair (slice_cmp nat_cmp) found m.0.0 m.0.1) next.1 (keep-insert found m.0.0 m.0.1 keep is))
         (λ _. keep-insert found m.0.0 m.0.1 keep is)))

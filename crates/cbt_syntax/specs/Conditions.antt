@@ -26,6 +26,7 @@ abbrev pub cmp_or : Cmp → Option (List ℕ) → Read Cmp → Read Cmp
 cmp_or cmp None other = other
 cmp_or cmp (Some rest) other = Ok (cmp, skip_spaces rest)
 
+-- the operator of a comparison
 unfoldable pub cmp_at : List ℕ → Read Cmp
 cmp_at text =
     cmp_or Eq (behind (codes "==") text)
@@ -47,6 +48,7 @@ module _ (bound : List ℕ → Bool) where
     x ← expr_at bound max_levels text
     nothing_behind x
 
+  -- two expressions with an operator between them
   unfoldable pub comparison : List ℕ → Outcome Cond
   comparison text = do
     left ← expr_at bound max_levels text
@@ -58,11 +60,13 @@ module _ (bound : List ℕ → Bool) where
   unfoldable pub whole_name : List ℕ → Outcome (List ℕ)
   whole_name text = if is_name text then (if bound text then Ok text else Err Unbound) else Err Malformed
 
+  -- a document was there at the get of a name
   abbrev pub has : List ℕ → Outcome Cond
   has text = do
     name ← whole_name (skip_spaces text)
     Ok (Has name)
 
+  -- no document was there
   abbrev pub lacks : List ℕ → Outcome Cond
   lacks text = do
     name ← whole_name (skip_spaces text)

@@ -25,6 +25,7 @@ abbrev pub goes_on : List ℕ → Bool
 goes_on [] = false
 goes_on (b ∷ bs) = (b == 46) || (b == 101) || (b == 69)
 
+-- a number where it ends so
 abbrev pub ended : ℤ → List ℕ → Read ℤ
 ended z text = if goes_on text then Err NotWhole else Ok (z, text)
 
@@ -34,6 +35,7 @@ negative_at text = do
   n ← decimal_at text
   if (n.0 == 0) || nat_lt (2 ^ 63) n.0 then Err NotWhole else ended (neg_ℤ (pos n.0)) n.1
 
+-- a number without a sign
 abbrev pub positive_at : List ℕ → Read ℤ
 positive_at text = do
   n ← decimal_at text

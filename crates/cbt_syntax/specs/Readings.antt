@@ -3,6 +3,7 @@ use Rattle.std.specs.Prelude.{◌≡◌, ℕ, List, Result, Ok, Err}
 use Rattle.cbt_syntax.specs.declared.fault.SyntaxFault.{SyntaxFault}
 use Rattle.cbt_syntax.specs.declared.fault.SyntaxFault.TheVariants.{NotWhole, Malformed, Unbound, NoMemory}
 
+-- what is read, or why nothing is
 abbrev pub Outcome : Type 0 → Type 0
 Outcome A = Result A SyntaxFault
 
@@ -10,6 +11,7 @@ Outcome A = Result A SyntaxFault
 abbrev pub Read : Type 0 → Type 0
 Read A = Outcome (A × List ℕ)
 
+-- one reading after another; the first fault decides
 infixl 10 ◌>>=◌
 abbrev pub ◌>>=◌ : {A B : Type 0} → Outcome A → (A → Outcome B) → Outcome B
 Ok x >>= f = f x

@@ -36,6 +36,7 @@ path_end at within (b ∷ bs) = if stops within b then at else path_end (at + 1)
 
 -- ---- the path
 
+-- each fault of a path is a fault of form
 abbrev pub as_path : Result (List Part) PathFault → Outcome (Option (List Part))
 as_path (Ok parts) = Ok (Some parts)
 as_path (Err fault) = Err Malformed
@@ -68,5 +69,6 @@ name_of bound len text =
     else (if bound (take len text) then Ok (take len text, drop len text)
     else Err Unbound)
 
+-- the name at the front: all bytes that may stand in one
 abbrev pub name_at : (List ℕ → Bool) → List ℕ → Read (List ℕ)
 name_at bound text = name_of bound (prefix_len is_name_byte text) text

@@ -67,6 +67,7 @@ module _ (bound : List ℕ → Bool) where
   abbrev pub IsExpr : Expr → Type 0
   IsExpr expr = IsForm max_levels (form_of expr)
 
+  -- a condition over such expressions, or on a bound name
   abbrev pub IsCond : Cond → Type 0
   IsCond (Compare left cmp right) = IsExpr left × IsExpr right
   IsCond (Has name) = IsBoundName name

@@ -19,6 +19,7 @@ abbrev pub text_in : Tree-F Tree → Outcome (List ℕ)
 text_in (Tree-F.Text s) = Ok s
 text_in _ = Err Malformed
 
+-- the string that was read as JSON; a text that is refused is of another form
 abbrev pub text_of_json : Result Tree JsonFault → Outcome (List ℕ)
 text_of_json (Ok tree) = text_in (out-Tree tree)
 text_of_json (Err fault) = Err Malformed

@@ -26,6 +26,7 @@ abbrev pub word_or : Tree → Option (List ℕ) → Read Tree → Read Tree
 word_or value None other = other
 word_or value (Some rest) other = Ok (value, rest)
 
+-- `null`, `true` or `false`
 unfoldable pub word_at : List ℕ → Read Tree
 word_at text =
     word_or tree.Null (behind (codes "null") text)
@@ -33,11 +34,13 @@ word_at text =
     (word_or (tree.Bool false) (behind (codes "false") text)
     (Err Malformed)))
 
+-- a string as a value
 abbrev pub text_at : List ℕ → Read Tree
 text_at text = do
   s ← string_at text
   Ok (tree.Text s.0, s.1)
 
+-- a whole number as a value
 abbrev pub whole_at : List ℕ → Read Tree
 whole_at text = do
   z ← number_at text
@@ -73,9 +76,9 @@ past b [] = Err Malformed
 past b (c ∷ cs) = if c == b then Ok (skip_spaces cs) else Err Malformed
 
 -- behind an item: whether a comma tells of another, or this byte closes them
-abbrev pub goes_on : ℕ → List ℕ → Read Bool
-goes_on close [] = Err Malformed
-goes_on close (b ∷ bs) =
+abbrev pub after_item : ℕ → List ℕ → Read Bool
+after_item close [] = Err Malformed
+after_item close (b ∷ bs) =
     if b == 44 then Ok (true, skip_spaces bs)
     else (if b == close then Ok (false, skip_spaces bs)
     else Err Malformed)
@@ -97,11 +100,12 @@ by_sign (Some x) none some = some x
 -- part has a byte at least, so the count of the bytes is enough
 
 module _ (expr : List ℕ → Read Expr) where
+  -- further items behind those found, up to the closing bracket
   unfoldable pub items_from : ℕ → List Expr → List ℕ → Read (List Expr)
   items_from zero found text = Err Malformed
   items_from (suc n) found text = do
     item ← expr text
-    next ← goes_on 93 item.1
+    next ← after_item 93 item.1
     if next.0 then items_from n (found ++ item.0 ∷ []) next.1 else Ok (found ++ item.0 ∷ [], next.1)
 
   -- a list behind its bracket
@@ -126,7 +130,7 @@ module _ (expr : List ℕ → Read Expr) where
   members_from zero found text = Err Malformed
   members_from (suc n) found text = do
     m ← member_at text
-    next ← goes_on 125 m.1
+    next ← after_item 125 m.1
     if next.0
         then members_from n (with_pair (slice_cmp nat_cmp) found m.0.0 m.0.1) next.1
         else Ok (with_pair (slice_cmp nat_cmp) found m.0.0 m.0.1, next.1)
@@ -150,6 +154,7 @@ module _ (term_in : List ℕ → Read Term) where
     t ← term_in x.1
     joined_from n (found ++ (x.0, t.0) ∷ []) t.1)
 
+  -- an expression at the front: a term, and those joined to it
   unfoldable pub expr_by : List ℕ → Read Expr
   expr_by text = do
     first ← term_in text
@@ -159,6 +164,7 @@ module _ (term_in : List ℕ → Read Term) where
 -- ---- terms, by the readings behind an opening bracket
 
 module _ (bound : List ℕ → Bool) where
+  -- a term, by what its first byte is
   unfoldable pub term_by : (List ℕ → Read Term) → (List ℕ → Read Term) → List ℕ → Read Term
   term_by list object [] = Err Malformed
   term_by list object (b ∷ bs) =
@@ -167,6 +173,7 @@ module _ (bound : List ℕ → Bool) where
       else (if b == 64 then reference_at bound bs
       else plain_at (b ∷ bs)))
 
+  -- a bracket where no further level may nest
   abbrev pub too_deep : List ℕ → Read Term
   too_deep text = Err Malformed
 
@@ -175,5 +182,6 @@ module _ (bound : List ℕ → Bool) where
   term_at zero = term_by too_deep too_deep
   term_at (suc n) = term_by (list_at (expr_by (term_at n))) (object_at (expr_by (term_at n)))
 
+  -- an expression in which so many levels may nest
   abbrev pub expr_at : ℕ → List ℕ → Read Expr
   expr_at levels = expr_by (term_at levels)

@@ -26,21 +26,25 @@ is_word name = nat_lt 0 (length name) && list_all is_word_byte name
 abbrev pub name_text : List ℕ → List ℕ
 name_text name = if is_word name then name else codes "`" ++ (doubled name ++ codes "`")
 
+-- a part: a name is always led by a dot
 abbrev pub part_text : Part → List ℕ
 part_text (Name name) = codes "." ++ name_text name
 part_text (Place n) = codes "[" ++ (decimal n ++ codes "]")
 part_text Last = codes "[-1]"
 
+-- the parts of a path, one after another
 abbrev pub path_text : List Part → List ℕ
 path_text [] = []
 path_text (part ∷ parts) = part_text part ++ path_text parts
 
+-- a reference without a path names all that is bound
 abbrev pub maybe_path_text : Option (List Part) → List ℕ
 maybe_path_text None = []
 maybe_path_text (Some path) = path_text path
 
 -- ---- expressions
 
+-- the sign in front of a further term
 abbrev pub sign_text : Sign → List ℕ
 sign_text Plus = codes "+"
 sign_text Minus = codes "-"
@@ -81,11 +85,13 @@ abbrev pub joins_text : List (Sign × TermForm) → List ℕ
 joins_text [] = []
 joins_text (x ∷ xs) = sign_text x.0 ++ (term_text x.1 ++ joins_text xs)
 
+-- the canonical text of an expression
 abbrev pub expr_text : Expr → List ℕ
 expr_text expr = form_text (form_of expr)
 
 -- ---- conditions
 
+-- the operator of a comparison
 abbrev pub cmp_text : Cmp → List ℕ
 cmp_text Eq = codes "=="
 cmp_text Ne = codes "!="
@@ -94,6 +100,7 @@ cmp_text Le = codes "<="
 cmp_text Gt = codes ">"
 cmp_text Ge = codes ">="
 
+-- the canonical text of a condition
 abbrev pub cond_text : Cond → List ℕ
 cond_text (Compare left cmp right) = expr_text left ++ (cmp_text cmp ++ expr_text right)
 cond_text (Has name) = codes "some " ++ name

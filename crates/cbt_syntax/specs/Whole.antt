@@ -17,11 +17,14 @@ decided (Ok x) freely = Ok x
 decided (Err Unbound) freely = unbound_or freely
 decided (Err fault) freely = Err fault
 
+-- every name counts as bound
 abbrev pub any_name : List ℕ → Bool
 any_name name = true
 
+-- the expression that a text is, by the test which names are bound
 abbrev pub expr_of : (List ℕ → Bool) → List ℕ → Outcome Expr
 expr_of bound text = decided (whole_expr bound text) (whole_expr any_name text)
 
+-- the condition that a text is
 abbrev pub cond_of : (List ℕ → Bool) → List ℕ → Outcome Cond
 cond_of bound text = decided (whole_cond bound text) (whole_cond any_name text)

@@ -143,7 +143,7 @@ impl<V> Reader<'_, V> {
         let mut rest = text;
         for _turn in 0..text.len() {
             let (item, behind) = self.expr(rest, levels)?;
-            let (more, behind) = goes_on(behind, b']')?;
+            let (more, behind) = after_item(behind, b']')?;
             found.push(item)?;
             if !more {
                 return Ok((found, behind));
@@ -185,7 +185,7 @@ impl<V> Reader<'_, V> {
         let mut rest = text;
         for _turn in 0..text.len() {
             let ((name, value), behind) = self.member(rest, levels)?;
-            let (more, behind) = goes_on(behind, b'}')?;
+            let (more, behind) = after_item(behind, b'}')?;
             found.insert(name, value)?;
             if !more {
                 return Ok((found, behind));
@@ -231,9 +231,9 @@ fn past(text: &str, byte: u8) -> Result<&str, SyntaxFault>
 }
 
 // Whether a comma tells of another item, or this byte closes them.
-fn goes_on(text: &str, close: u8) -> Result<(bool, &str), SyntaxFault>
+fn after_item(text: &str, close: u8) -> Result<(bool, &str), SyntaxFault>
     requires { close < 128 }
-    ensures { Reads (λ x. (x.0, x.1.now)) result (spec.goes_on close text.now) }
+    ensures { Reads (λ x. (x.0, x.1.now)) result (spec.after_item close text.now) }
 {
     match text.as_bytes() {
         [b',', ..] => Ok((true, past_spaces(behind_first(text)))),
