@@ -2,7 +2,7 @@
 
 ghost use Rattle.std.specs.Prelude.{◌≡◌, IfOk};
 
-use crate::expressions::{Cond, Expr, Sign, Term};
+use crate::expressions::{Cond, Expr, Term};
 use cbt_base::{Duplicate, List, NoMemory, Text};
 use std::alloc::Global;
 
