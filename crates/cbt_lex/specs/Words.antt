@@ -1,0 +1,14 @@
+-- Words, which are parted by spaces.
+use Rattle.std.specs.Prelude.{ℕ, Bool, ◌==◌, nat_lt, if◌then◌else◌, List, [], length}
+use Rattle.std.specs.List.{before_first, after_first, position_or_len}
+use Rattle.cbt_lex.specs.Lines.{skip_spaces}
+
+abbrev pub has_space : List ℕ → Bool
+has_space text = nat_lt (position_or_len (λ b. b == 32) text) (length text)
+
+-- the text before the first space, and what stands behind that and further spaces
+abbrev pub word_and_rest : List ℕ → List ℕ × List ℕ
+word_and_rest text =
+    if has_space text
+    then (before_first (λ b. b == 32) text, skip_spaces (after_first (λ b. b == 32) text))
+    else (text, [])

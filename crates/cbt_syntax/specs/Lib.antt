@@ -1,0 +1,11 @@
+pub mod Readings
+pub mod Pieces
+pub mod Strings
+pub mod Numbers
+pub mod References
+pub mod Terms
+pub mod Bound
+pub mod Conditions
+pub mod Whole
+pub mod Texts
+pub mod Rules
