@@ -1,5 +1,6 @@
 -- The lines of a text.
-use Rattle.std.specs.Prelude.{ℕ, ◌+◌, Bool, false, ◌==◌, ◌&&◌, if◌then◌else◌, List, [], ◌∷◌, take, drop, reverse, position, Option, Some, None}
+use Rattle.std.specs.Prelude.{ℕ, ◌+◌, ◌==◌, if◌then◌else◌, List, [], ◌∷◌, take, drop, reverse, position, Option, Some, None}
+use Rattle.cbt_lex.specs.Pieces.{pieces}
 
 -- a text without the spaces at its front
 abbrev pub skip_spaces : List ℕ → List ℕ
@@ -29,19 +30,17 @@ line_and_rest text = cut_at (position (λ b. b == 10) text) text
 
 -- ---- all lines
 
-abbrev pub starts_with_feed : List ℕ → Bool
-starts_with_feed [] = false
-starts_with_feed (b ∷ bs) = b == 10
+-- what stands behind the last line feed is a line only where something stands there
+abbrev pub last_line : List ℕ → List (List ℕ)
+last_line [] = []
+last_line (b ∷ bs) = (b ∷ bs) ∷ []
 
--- the first of some lines with a byte in front, or a line of this byte
-abbrev pub in_first : ℕ → List (List ℕ) → List (List ℕ)
-in_first b [] = (b ∷ []) ∷ []
-in_first b (line ∷ lines) = (b ∷ line) ∷ lines
+-- the pieces of a text between line feeds as its lines
+abbrev pub ended : List (List ℕ) → List (List ℕ)
+ended [] = []
+ended (piece ∷ []) = last_line piece
+ended (piece ∷ next ∷ pieces) = without_return piece ∷ ended (next ∷ pieces)
 
--- the lines of a text: each ends at a line feed, which the last may lack; a carriage return right before a line feed is dropped
+-- the lines of a text
 abbrev pub lines_of : List ℕ → List (List ℕ)
-lines_of [] = []
-lines_of (b ∷ bs) =
-    if b == 10 then [] ∷ lines_of bs
-    else (if b == 13 && starts_with_feed bs then lines_of bs
-    else in_first b (lines_of bs))
+lines_of text = ended (pieces 10 text)

@@ -16,3 +16,6 @@ pub mod ReadBack
 pub mod Inserted
 pub mod CanonicalPaths
 pub mod WellRead
+pub mod CleanTexts
+pub mod CleanPaths
+pub mod OneLine

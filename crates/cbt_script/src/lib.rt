@@ -1,6 +1,0 @@
-//! What a script says: its settings, documents, clients and cleaners, and what is to go wrong.
-#![tactic(auto)]
-
-mod script;
-
-pub use script::Script;

@@ -1,7 +1,0 @@
-use Rattle.std.proofs.Common.{◌≡◌, drop}
-use Rattle.cbtx.specs.Fields.{digits_from}
-use Rattle.cbtx.proofs.fields.all_digits.Given as goal
-
--- the number so far, with the digits that are left, gives the whole
-abbrev pub invariant-loop-digit : goal.invariant-loop-digit
-invariant-loop-digit l = digits_from l.number (drop l.digit-index l.digits) ≡ digits_from 0 l.digits

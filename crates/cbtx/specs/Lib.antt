@@ -1,9 +1,0 @@
-pub mod Fields
-pub mod FirstForm
-pub mod Path
-pub mod Replacing
-pub mod Words
-pub mod Statuses
-pub mod Committed
-pub mod Headline
-pub mod Logs
