@@ -1,0 +1,14 @@
+pub mod Attributed
+pub mod Ordered
+pub mod Utf8
+pub mod ReadOn
+pub mod Lined
+pub mod RulesOfFields
+pub mod RulesOfNames
+pub mod RulesOfDocuments
+pub mod RulesOfSettings
+pub mod RulesOfOperations
+pub mod RulesOfClients
+pub mod RulesOfCourse
+pub mod RulesOfDrafts
+pub mod RulesOfScripts

@@ -1,0 +1,7 @@
+use Rattle.std.proofs.Common.{◌≡◌, ◌++◌, drop}
+use Rattle.cbt_script.specs.Printed.{lined, cleaner_lines}
+use Rattle.cbt_script.proofs.printing.push_cleaners.Given as goal
+
+-- what is written and the lines that are left make the whole
+abbrev pub invariant-loop-name : goal.invariant-loop-name
+invariant-loop-name l = l.out ++ lined (cleaner_lines (drop l.name-index l.cleaners)) ≡ l.fn.out ++ lined (cleaner_lines l.cleaners)

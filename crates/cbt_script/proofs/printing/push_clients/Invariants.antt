@@ -1,0 +1,7 @@
+use Rattle.std.proofs.Common.{◌≡◌, ◌++◌, drop}
+use Rattle.cbt_script.specs.Printed.{lined, client_lines}
+use Rattle.cbt_script.proofs.printing.push_clients.Given as goal
+
+-- what is written and the lines that are left make the whole
+abbrev pub invariant-loop-name : goal.invariant-loop-name
+invariant-loop-name l = l.out ++ lined (client_lines (drop l.name-index l.clients)) ≡ l.fn.out ++ lined (client_lines l.clients)

@@ -1,0 +1,13 @@
+pub mod Opening
+pub mod Causes
+pub mod Fields
+pub mod Keywords
+pub mod Settings
+pub mod Documents
+pub mod Operations
+pub mod Clients
+pub mod Course
+pub mod Drafts
+pub mod Reading
+pub mod Printed
+pub mod Rules

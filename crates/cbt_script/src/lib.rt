@@ -1,0 +1,19 @@
+//! What a script says: its settings, documents, clients and cleaners, and what is to go wrong.
+#![tactic(auto)]
+
+mod cause;
+mod clients;
+mod course;
+mod documents;
+mod draft;
+mod fields;
+mod keywords;
+mod limits;
+mod operations;
+mod printing;
+mod reading;
+mod script;
+mod settings;
+
+pub use cause::{Bad, Cause, ScriptFault};
+pub use script::Script;
