@@ -1,0 +1,9 @@
+pub mod Runnable
+pub mod Begun
+pub mod Runs
+pub mod Paths
+pub mod Told
+pub mod Phases
+pub mod Six
+pub mod Recorded
+pub mod Ended

@@ -1,0 +1,37 @@
+use Rattle.std.proofs.Common.{refl, sym, ◌∙◌}
+use Rattle.cbtx.specs.Statuses.{is_refusal, bad_line, not_built_line}
+use Rattle.cbtx.proofs.Ended.{read_is, bad_is, refuses_bad, refuses_script, cut_off}
+use Rattle.cbtx.proofs.still.sim.Goals as goal
+
+pub returns-in-Ok-read-clause-refused : goal.returns-in-Ok-read-clause-refused
+returns-in-Ok-read-clause-refused g c one =
+    let is = read_is c.as_slice.result.now c.in-Ok.bytes c.in-Ok-read.script c.as_slice.ensures c.in-Ok-read.ensures.answer in
+    record {
+      text = not_built_line;
+      refused = refuses_script _ _ c.in-Ok.bytes c.in-Ok.ensures.whole c.in-Ok-read.script is (c.run.ensures.refused one).0;
+      written = (c.run.ensures.refused one).1;
+    }
+
+pub returns-in-Ok-read-clause-write_failed : goal.returns-in-Ok-read-clause-write_failed
+returns-in-Ok-read-clause-write_failed g c four =
+    let is = read_is c.as_slice.result.now c.in-Ok.bytes c.in-Ok-read.script c.as_slice.ensures c.in-Ok-read.ensures.answer in
+    cut_off _ _ c.in-Ok.bytes c.in-Ok.ensures.whole _ _ _ _ c.in-Ok-read.script is c.run.result.script c.run.result.book c.run.ensures.together c.run.ensures.same
+    (c.run.ensures.report_cut four) (c.run.ensures.refusal_cut four)
+
+pub returns-in-Err-Bad-clause-refused : goal.returns-in-Err-Bad-clause-refused
+returns-in-Err-Bad-clause-refused g c one =
+    let is = bad_is c.as_slice.result.now c.in-Ok.bytes c.in-Err-Bad.bad c.as_slice.ensures (rw c.in-Err-Bad.field-0-is at c.in-Err-Bad.ensures.answer) in
+    record {
+      text = bad_line c.in-Err-Bad.bad;
+      refused = refuses_bad _ _ c.in-Ok.bytes c.in-Ok.ensures.whole c.in-Err-Bad.bad is;
+      written = c.refuse.ensures.whole (sym c.ended-in-Err-Bad.ensures.status ∙ one);
+    }
+
+pub returns-in-Err-Bad-clause-write_failed : goal.returns-in-Err-Bad-clause-write_failed
+returns-in-Err-Bad-clause-write_failed g c four =
+    let is = bad_is c.as_slice.result.now c.in-Ok.bytes c.in-Err-Bad.bad c.as_slice.ensures (rw c.in-Err-Bad.field-0-is at c.in-Err-Bad.ensures.answer) in
+    record {
+      text = bad_line c.in-Err-Bad.bad;
+      due = is_refusal refl c.ended-in-Err-Bad.ensures.script (refuses_bad _ _ c.in-Ok.bytes c.in-Ok.ensures.whole c.in-Err-Bad.bad is);
+      cut = c.refuse.ensures.cut (sym c.ended-in-Err-Bad.ensures.status ∙ four);
+    }

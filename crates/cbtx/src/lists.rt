@@ -1,0 +1,15 @@
+//! Lists of one item.
+
+ghost use Rattle.std.specs.Prelude.{◌≡◌, [], ◌∷◌, IfOk};
+
+use cbt_base::{List, NoMemory};
+use std::alloc::Global;
+
+/// A list of one item.
+pub fn only<T: Drop>(alloc: Global, item: T) -> Result<List<T>, NoMemory>
+    ensures { IfOk result (λ list. list ≡ item ∷ []) }
+{
+    let mut list = List::new(alloc);
+    list.push(item)?;
+    Ok(list)
+}
