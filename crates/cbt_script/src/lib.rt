@@ -8,6 +8,7 @@ mod documents;
 mod draft;
 mod fields;
 mod keywords;
+mod laws;
 mod limits;
 mod operations;
 mod printing;
@@ -16,4 +17,5 @@ mod script;
 mod settings;
 
 pub use cause::{Bad, Cause, ScriptFault};
+pub use laws::{scripts_keep_rules, text_reads_back};
 pub use script::Script;
