@@ -1,6 +1,8 @@
--- Identifiers of documents, attempts, transactions and cleaners, and the place of an attempt's record.
+-- Identifiers of documents, attempts, transactions and cleaners, their texts, and the place of an attempt's record.
 use Rattle.std.specs.Prelude.{◌≡◌, ℕ, ◌+◌, ◌-◌, ◌*◌, ◌%◌, ◌^◌, Bool, List, Option, Some, None, if◌then◌else◌, nat_lt, nat_eq, ◌==◌, ◌&&◌, not, length, position, fold, bit_xor, codes}
 use Rattle.std.specs.List.{starts_with}
+use Rattle.std.specs.Int.{to_be_bytes, w128}
+use Rattle.uuid.specs.Text.{hyphenated_text, lower}
 use Rattle.cbt_base.specs.declared.doc_id.IdFault.{IdFault}
 use Rattle.cbt_base.specs.declared.doc_id.IdFault.TheVariants.{Empty, TooLong, BadByte, Reserved}
 
@@ -47,6 +49,10 @@ txn_number attempt = attempt - attempt % 2 ^ 32
 -- the cleaner with this number
 abbrev pub cleaner_number : ℕ → ℕ
 cleaner_number n = owner_fields n 0
+
+-- an identifier as text: its sixteen bytes, the high one first, in a UUID's hyphenated form and in lower case
+abbrev pub id_text : ℕ → List ℕ
+id_text n = hyphenated_text lower (to_be_bytes w128 n)
 
 -- the 64-bit FNV-1a hash of bytes
 abbrev pub fnv_1a : List ℕ → ℕ
