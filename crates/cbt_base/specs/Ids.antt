@@ -1,5 +1,5 @@
 -- Identifiers of documents, attempts, transactions and cleaners, their texts, and the place of an attempt's record.
-use Rattle.std.specs.Prelude.{◌≡◌, ℕ, ◌+◌, ◌-◌, ◌*◌, ◌%◌, ◌^◌, Bool, List, Option, Some, None, if◌then◌else◌, nat_lt, nat_eq, ◌==◌, ◌&&◌, not, length, position, fold, bit_xor, codes}
+use Rattle.std.specs.Prelude.{◌≡◌, ℕ, ◌+◌, ◌-◌, ◌*◌, ◌%◌, ◌^◌, Bool, List, Option, Some, None, Result, Ok, Err, if◌then◌else◌, nat_lt, nat_eq, ◌==◌, ◌&&◌, not, length, position, fold, bit_xor, codes}
 use Rattle.std.specs.List.{starts_with}
 use Rattle.std.specs.Int.{to_be_bytes, w128}
 use Rattle.uuid.specs.Text.{hyphenated_text, lower}
@@ -30,9 +30,18 @@ id_fault text =
     else (if nat_lt 250 (length text) then Some (TooLong (length text))
     else byte_fault (position (λ b. not (is_id_byte b)) text) text)
 
+-- a text, unless it has a fault
+abbrev pub ok_unless : Option IdFault → List ℕ → Result (List ℕ) IdFault
+ok_unless None text = Ok text
+ok_unless (Some fault) text = Err fault
+
 -- a text that is a document's identifier
 abbrev pub IsDocId : List ℕ → Type 0
 IsDocId text = id_fault text ≡ None
+
+-- what a text is as a document's identifier: itself, or its fault
+abbrev pub doc_id_of : List ℕ → Result (List ℕ) IdFault
+doc_id_of text = ok_unless (id_fault text) text
 
 -- an owner and a transaction's number, with a UUID's version and variant between them
 abbrev pub owner_fields : ℕ → ℕ → ℕ
