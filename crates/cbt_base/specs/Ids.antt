@@ -1,6 +1,8 @@
--- Identifiers of documents, attempts, transactions and cleaners, and the place of an attempt's record.
-use Rattle.std.specs.Prelude.{◌≡◌, ℕ, ◌+◌, ◌-◌, ◌*◌, ◌%◌, ◌^◌, Bool, List, Option, Some, None, if◌then◌else◌, nat_lt, nat_eq, ◌==◌, ◌&&◌, not, length, position, fold, bit_xor, codes}
+-- Identifiers of documents, attempts, transactions and cleaners, their texts, and the place of an attempt's record.
+use Rattle.std.specs.Prelude.{◌≡◌, ℕ, ◌+◌, ◌-◌, ◌*◌, ◌%◌, ◌^◌, Bool, List, Option, Some, None, Result, Ok, Err, if◌then◌else◌, nat_lt, nat_eq, ◌==◌, ◌&&◌, not, length, position, fold, bit_xor, codes}
 use Rattle.std.specs.List.{starts_with}
+use Rattle.std.specs.Int.{to_be_bytes, w128}
+use Rattle.uuid.specs.Text.{hyphenated_text, lower}
 use Rattle.cbt_base.specs.declared.doc_id.IdFault.{IdFault}
 use Rattle.cbt_base.specs.declared.doc_id.IdFault.TheVariants.{Empty, TooLong, BadByte, Reserved}
 
@@ -28,9 +30,18 @@ id_fault text =
     else (if nat_lt 250 (length text) then Some (TooLong (length text))
     else byte_fault (position (λ b. not (is_id_byte b)) text) text)
 
+-- a text, unless it has a fault
+abbrev pub ok_unless : Option IdFault → List ℕ → Result (List ℕ) IdFault
+ok_unless None text = Ok text
+ok_unless (Some fault) text = Err fault
+
 -- a text that is a document's identifier
 abbrev pub IsDocId : List ℕ → Type 0
 IsDocId text = id_fault text ≡ None
+
+-- what a text is as a document's identifier: itself, or its fault
+abbrev pub doc_id_of : List ℕ → Result (List ℕ) IdFault
+doc_id_of text = ok_unless (id_fault text) text
 
 -- an owner and a transaction's number, with a UUID's version and variant between them
 abbrev pub owner_fields : ℕ → ℕ → ℕ
@@ -47,6 +58,10 @@ txn_number attempt = attempt - attempt % 2 ^ 32
 -- the cleaner with this number
 abbrev pub cleaner_number : ℕ → ℕ
 cleaner_number n = owner_fields n 0
+
+-- an identifier as text: its sixteen bytes, the high one first, in a UUID's hyphenated form and in lower case
+abbrev pub id_text : ℕ → List ℕ
+id_text n = hyphenated_text lower (to_be_bytes w128 n)
 
 -- the 64-bit FNV-1a hash of bytes
 abbrev pub fnv_1a : List ℕ → ℕ

@@ -1,6 +1,6 @@
-ghost use Rattle.std.specs.Prelude.{◌≡◌, ◌⊎◌, Some, not, nat_eq, position};
+ghost use Rattle.std.specs.Prelude.{◌≡◌, ◌⊎◌, Some, IfOk, not, nat_eq, position};
 ghost use Rattle.std.specs.List.{starts_with};
-ghost use Rattle.cbt_base.specs.Ids.{id_fault, is_id_byte, reserved_prefix};
+ghost use Rattle.cbt_base.specs.Ids.{doc_id_of, id_fault, is_id_byte, reserved_prefix, IsDocId};
 ghost use Rattle.cbt_base.specs.declared.doc_id.IdFault.TheVariants.{NoMemory as WantOfMemory};
 
 use crate::memory::{Duplicate, NoMemory};
@@ -72,9 +72,9 @@ impl From<NoMemory> for IdFault {
 impl DocId {
     /// The identifier with this text.
     pub fn new(alloc: Global, text: &str) -> Result<DocId, IdFault>
-        // Each fault comes exactly where the text has it, and is the first that it has.
-        ensures refused { (fault : IdFault) → id_fault text.now ≡ Some fault → result ≡ Err fault }
-        ensures taken { id_fault text.now ≡ None → (result ≡ Ok text.now) ⊎ (result ≡ Err IdFault.NoMemory) }
+        // Only want of memory is free: but for it, the answer is what the text is.
+        ensures answer { (result ≡ doc_id_of text.now) ⊎ (result ≡ Err IdFault.NoMemory) }
+        ensures ok { IfOk result (λ id. (id ≡ text.now) × IsDocId text.now) }
     {
         match fault_of(text) {
             Some(fault) => Err(fault),

@@ -1,10 +1,12 @@
-ghost use Rattle.std.specs.Prelude.{◌≡◌, ℕ, ◌+◌, ◌*◌, ◌-◌, ◌%◌, ◌^◌, ◌<◌, ◌≤◌};
-ghost use Rattle.cbt_base.specs.Ids.{attempt_number, cleaner_number, owner_fields, txn_number, fnv_1a};
+ghost use Rattle.std.specs.Prelude.{◌≡◌, ℕ, ◌+◌, ◌*◌, ◌-◌, ◌%◌, ◌^◌, ◌<◌, ◌≤◌, Some, IfOk, IfSome, IfNone, length};
+ghost use Rattle.cbt_base.specs.Ids.{attempt_number, cleaner_number, id_text, owner_fields, txn_number, fnv_1a};
 
 use crate::doc_id::DocId;
 use crate::memory::{Duplicate, NoMemory};
+use crate::text::Text;
 use std::alloc::Global;
 use std::marker::Model;
+use uuid::Uuid;
 
 /// The identifier of an attempt, of a transaction or of a cleaner: a number of 128 bits.
 ///
@@ -60,6 +62,43 @@ impl Id {
     {
         self.number
     }
+
+    /// The identifier as text: the 36 bytes of a UUID's hyphenated form, in lower case.
+    pub fn text(&self, alloc: Global) -> Result<Text, NoMemory>
+        ensures { IfOk result (λ text. text ≡ id_text self.now) }
+    {
+        let mut buffer = Uuid::encode_buffer();
+        Text::from_str(alloc, written(self.number, &mut buffer))
+    }
+
+    /// The identifier that has this text; it takes no memory. Only the form that `text` gives is
+    /// read: no upper case, no braces, no missing hyphens and no prefix.
+    pub fn read(text: &str) -> Option<Id>
+        ensures some { IfSome result (λ id. text.now ≡ id_text id) }
+        ensures none { IfNone result ((n : ℕ) → n < 2 ^ 128 → text.now ≡ id_text n → ⊥) }
+        // Reading the text of an identifier gives that identifier.
+        ensures back { (n : ℕ) → n < 2 ^ 128 → text.now ≡ id_text n → result ≡ Some n }
+    {
+        let Ok(id) = Uuid::parse_str(text) else {
+            return None;
+        };
+        // The parser takes other forms too, so what it read is written again.
+        let number = id.as_u128();
+        let mut buffer = Uuid::encode_buffer();
+        if text == written(number, &mut buffer) {
+            Some(Id { number })
+        } else {
+            None
+        }
+    }
+}
+
+// The text of a number, in a buffer that has room for it.
+fn written<'b>(number: u128, buffer: &'b mut [u8]) -> &'b str
+    requires { 36 ≤ length buffer.old }
+    ensures { result.now ≡ id_text number }
+{
+    Uuid::from_u128(number).hyphenated().encode_lower(buffer)
 }
 
 // The owner and the transaction, with the version and the variant between them.

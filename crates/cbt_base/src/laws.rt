@@ -1,10 +1,10 @@
 //! Laws of maps and identifiers, for contracts above to rest on. Each function does nothing: what it
 //! ensures is the law.
 
-ghost use Rattle.std.specs.Prelude.{◌≡◌, ◌≢◌, ℕ, ◌+◌, ◌^◌, ◌<◌, ◌≤◌, List, Some, None, if◌then◌else◌};
+ghost use Rattle.std.specs.Prelude.{◌≡◌, ◌≢◌, ℕ, ◌+◌, ◌^◌, ◌<◌, ◌≤◌, List, Some, None, if◌then◌else◌, length};
 ghost use Rattle.std.specs.Ordering.{is_eq};
 ghost use Rattle.cbt_base.specs.Keyed.{at_key, with_pair, without_key, Rises};
-ghost use Rattle.cbt_base.specs.Ids.{attempt_number, cleaner_number, owner_fields, txn_number};
+ghost use Rattle.cbt_base.specs.Ids.{attempt_number, cleaner_number, id_text, owner_fields, txn_number};
 
 /// Look-ups after an insertion, for keys of any order: the key that was set has the new value, and
 /// each other key has what it had.
@@ -36,4 +36,10 @@ pub fn identifiers_differ()
     ensures cleaners { (m n : ℕ) → m < 2 ^ 32 → n < 2 ^ 32 → cleaner_number m ≡ cleaner_number n → m ≡ n }
     ensures no_attempt { (c s m n : ℕ) → c < 2 ^ 32 → s < 2 ^ 16 → m < 2 ^ 32 → n < 2 ^ 32 → 1 ≤ m
         → attempt_number c s m ≢ cleaner_number n }
+{}
+
+/// Different identifiers have different texts, and each text has 36 bytes.
+pub fn id_texts_differ()
+    ensures differ { (m n : ℕ) → m < 2 ^ 128 → n < 2 ^ 128 → id_text m ≡ id_text n → m ≡ n }
+    ensures long { (n : ℕ) → length (id_text n) ≡ 36 }
 {}

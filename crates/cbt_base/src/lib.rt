@@ -20,7 +20,7 @@ pub use clock::{
 };
 pub use doc_id::{DocId, IdFault, MAX_ID_LEN};
 pub use id::{Id, atr_of};
-pub use laws::{get_after_insert, get_after_remove, identifiers_differ};
+pub use laws::{get_after_insert, get_after_remove, id_texts_differ, identifiers_differ};
 pub use list::List;
 pub use map::Map;
 pub use memory::{Duplicate, NoMemory};

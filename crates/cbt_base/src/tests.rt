@@ -51,6 +51,40 @@ fn numbers_of_identifiers(rt: HostRuntime) {
 }
 
 #[test]
+fn texts_of_identifiers(rt: HostRuntime) -> Result<(), Fail> {
+    let attempt = Id::attempt(1, 1, 1);
+    let text = attempt.text(rt.alloc())?;
+    assert_eq!(rt; text.as_str(), "00000001-0001-8000-8000-000000000001");
+    assert_eq!(rt; Id::read(text.as_str()), Some(attempt));
+    let largest = Id::read("ffffffff-ffff-ffff-ffff-ffffffffffff");
+    assert_eq!(rt; largest.map(|id| id.number()), Some(u128::MAX));
+    Ok(())
+}
+
+#[test]
+fn other_forms_of_identifiers(rt: HostRuntime) {
+    let refused = [
+        // Upper case, in part and in whole.
+        "0000000a-0001-8000-8000-00000000000A",
+        "0000000A-0001-8000-8000-00000000000A",
+        // Braces, no hyphens, and the prefix of a URN.
+        "{0000000a-0001-8000-8000-00000000000a}",
+        "0000000a00018000800000000000000a",
+        "urn:uuid:0000000a-0001-8000-8000-00000000000a",
+        // A hyphen in another place, and a byte that is no digit.
+        "000000-0a0001-8000-8000-00000000000a",
+        "0000000g-0001-8000-8000-00000000000a",
+        // 35 and 37 bytes, and none.
+        "0000000a-0001-8000-8000-00000000000",
+        "0000000a-0001-8000-8000-00000000000aa",
+        "",
+    ];
+    for text in refused {
+        assert_eq!(rt; Id::read(text), None);
+    }
+}
+
+#[test]
 fn lists(rt: HostRuntime) -> Result<(), Fail> {
     let alloc = rt.alloc();
     let mut list = List::from_slice(alloc, &[1u64, 2])?;
