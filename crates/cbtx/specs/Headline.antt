@@ -42,7 +42,7 @@ pub record HasCommitted (book : Book) : Type 0 where
   pub clients : book.clients ≡ committed_log ∷ []
   pub cleaners : book.cleaners ≡ []
 
--- the book of a run of a script of the first form
+-- the book of a run of a script that the program runs
 pub record IsRunOf (script : Script) (book : Book) : Type 0 where
   pub opening : book.kept.opening ≡ opening_of script.docs
   pub legal : IsLegalFor script book.kept
