@@ -13,7 +13,12 @@ use std::alloc::Global;
 use std::str;
 
 impl Script {
-    /// Reads a script.
+    /// Reads a script: the settings, documents, clients, cleaners, faults and order that its lines say.
+    ///
+    /// # Errors
+    ///
+    /// `Bad` with the first line that no script has at its place, counted from 1, and the cause of it.
+    /// `NoMemory` where memory runs out.
     pub fn read(alloc: Global, bytes: &[u8]) -> Result<Script, ScriptFault>
         // So bytes have one answer, unless memory runs out.
         ensures answer { (result ≡ script_of bytes.now) ⊎ (result ≡ Err ScriptFault.NoMemory) }
