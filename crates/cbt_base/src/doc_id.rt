@@ -75,6 +75,8 @@ impl DocId {
         // Only want of memory is free: but for it, the answer is what the text is.
         ensures answer { (result ≡ doc_id_of text.now) ⊎ (result ≡ Err IdFault.NoMemory) }
         ensures ok { IfOk result (λ id. (id ≡ text.now) × IsDocId text.now) }
+        // A text with a fault is answered with it, whatever memory there is.
+        ensures refused { (fault : IdFault) → id_fault text.now ≡ Some fault → result ≡ Err fault }
     {
         match fault_of(text) {
             Some(fault) => Err(fault),
