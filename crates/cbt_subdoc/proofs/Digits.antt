@@ -1,5 +1,5 @@
 -- The digits of a place, read one after another.
-use Rattle.std.proofs.Common.{◌≡◌, ℕ, ◌+◌, ◌-◌, ◌*◌, ◌<◌, Bool, true, false, cond, List, ◌∷◌, length, drop, get_or, Option, Some, None, refl, sym, ap, ◌∙◌, arith, drop-cons, add-one}
+use Rattle.std.proofs.Common.{◌≡◌, ℕ, ◌+◌, ◌-◌, ◌*◌, ◌<◌, Bool, true, false, cond, List, ◌∷◌, length, drop, get_or, Some, None, refl, sym, ap, ◌∙◌, arith, drop-cons, add-one}
 use Rattle.std.proofs.lemmas.Bool.{and_parts}
 use Rattle.std.proofs.lemmas.Bool.Decides.{nat_tests}
 use Rattle.std.proofs.lemmas.Str.{IsCharBoundary-after_ascii}
@@ -13,17 +13,10 @@ pub digit_made : (t : Bool) (more made : ℕ) → Some more ≡ cond t (Some mad
 digit_made true more made e = (refl, cc)
 digit_made false more made e = absurd (cc)
 
-pub no_digit : (t : Bool) (made : ℕ) → ◌≡◌ {A = Option ℕ} None (cond t (Some made) None) → t ≡ false
-no_digit true made e = absurd (cc)
-no_digit false made e = refl
-
 pub digits-more : (n b more : ℕ) (rest : List ℕ) → Some more ≡ cond (may_follow n b) (Some (n * 10 + (b - 48))) None → digits n (b ∷ rest) ≡ digits more rest
 digits-more n b more rest e =
     let p = digit_made (may_follow n b) more (n * 10 + (b - 48)) e in
     ap (λ t. cond t (digits (n * 10 + (b - 48)) rest) (closed (Place n) (b ∷ rest))) p.0 ∙ ap (λ m. digits m rest) (sym p.1)
-
-pub digits-closed : (n b : ℕ) (rest : List ℕ) → ◌≡◌ {A = Option ℕ} None (cond (may_follow n b) (Some (n * 10 + (b - 48))) None) → digits n (b ∷ rest) ≡ closed (Place n) (b ∷ rest)
-digits-closed n b rest e = ap (λ t. cond t (digits (n * 10 + (b - 48)) rest) (closed (Place n) (b ∷ rest))) (no_digit (may_follow n b) _ e)
 
 -- a digit is ASCII
 ascii_digit : (b : ℕ) → is_ascii_digit b ≡ true → b < 128
@@ -41,9 +34,3 @@ pub step-more : (n b more at : ℕ) (text : List ℕ) (whole : Front) → at < l
 step-more n b more at text whole within is e before =
     let cut : drop at text ≡ b ∷ drop (at + 1) text = rw (is, add-one) (drop-cons text at 0 within) in
     sym (digits-more n b more (drop (at + 1) text) e) ∙ ap (digits n) (sym cut) ∙ before
-
-pub step-closed : (n b at : ℕ) (text : List ℕ) (whole : Front) → at < length text → b ≡ get_or text at 0
-    → ◌≡◌ {A = Option ℕ} None (cond (may_follow n b) (Some (n * 10 + (b - 48))) None) → digits n (drop at text) ≡ whole → whole ≡ closed (Place n) (drop at text)
-step-closed n b at text whole within is e before =
-    let cut : drop at text ≡ b ∷ drop (at + 1) text = rw (is, add-one) (drop-cons text at 0 within) in
-    sym before ∙ ap (digits n) cut ∙ digits-closed n b (drop (at + 1) text) e ∙ ap (closed (Place n)) (sym cut)

@@ -6,7 +6,7 @@ use Rattle.cbt_subdoc.specs.declared.path.PathFault.{PathFault}
 use Rattle.cbt_subdoc.specs.declared.path.PathFault.TheVariants.{Empty, TooLong, BadAt, TooManyParts}
 use Rattle.cbt_subdoc.specs.PathLimits.{max_parts}
 use Rattle.cbt_subdoc.specs.Written.{GoesOn, IsFirstBad}
-use Rattle.cbt_subdoc.specs.Paths.{Front, stuck, next_at, first_at, further, led_by, part_and, parts_of, counted, path_of}
+use Rattle.cbt_subdoc.specs.Paths.{Front, next_at, first_at, further, led_by, part_and, parts_of, counted, path_of}
 use Rattle.cbt_subdoc.proofs.Accepted.{written-read}
 use Rattle.cbt_subdoc.proofs.Grammar.{read-written}
 use Rattle.cbt_subdoc.proofs.Shorter.{next-shorter, first-shorter}
@@ -100,10 +100,6 @@ behind f g text mid part left whole l s = record {
       let t = s.front ++ b ∷ r in
       ap g (append_assoc l.word s.front (b ∷ r)) ∙ whole (l.word ++ t) t (l.local t (alike_on mid s.front b more r mid-is)) ∙ ap (led_by part) (s.never b more r e));
 }
-
-some_taken : (f : List ℕ → Front) (text : List ℕ) (part : Part) → f [] ≡ stuck [] → f text ≡ Ok (part, []) → (b : ℕ) × ((rest : List ℕ) × (text ≡ b ∷ rest))
-some_taken f [] part empty e = absurd (cc)
-some_taken f (b ∷ rest) part empty e = (b, (rest, refl))
 
 some_front : (front : List ℕ) (b : ℕ) (r : List ℕ) → (c : ℕ) × ((rest : List ℕ) × (front ++ b ∷ r ≡ c ∷ rest))
 some_front [] b r = (b, (r, refl))

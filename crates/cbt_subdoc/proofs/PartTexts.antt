@@ -12,9 +12,6 @@ use Rattle.cbt_subdoc.proofs.Quotes.{quoted-plain, quoted-end, quoted-two, front
 
 -- ---- names
 
-fronted_one : (b : ℕ) (name rest : List ℕ) → fronted (b ∷ []) (Some (name, rest)) ≡ Some (b ∷ name, rest)
-fronted_one b name rest = refl
-
 doubled_by : (b : ℕ) (name rest : List ℕ) (t : Bool) → (b == 96) ≡ t → quoted (doubled name ++ 96 ∷ rest) ≡ Some (name, rest)
     → quoted (cond t (96 ∷ 96 ∷ doubled name) (b ∷ doubled name) ++ 96 ∷ rest) ≡ Some (b ∷ name, rest)
 doubled_by b name rest true is tail =

@@ -79,10 +79,6 @@ pub item_put : (change : Change) (ts mid new : List Tree) (at : ℕ) (child hole
 item_put change ts mid new at child hole slot here taken changed put =
     ap (item_changed change at ts) here ∙ ap (in_list at ts) changed ∙ ap (λ l. Ok (tree.List l)) (sym (put ∙ back ts mid at hole slot taken))
 
-pub item_stuck : (change : Change) (ts : List Tree) (at : ℕ) (child : Tree) (why : Refusal) → slice_get ts at ≡ Some child → change (Some child) ≡ Err why
-    → item_changed change at ts (slice_get ts at) ≡ Err why
-item_stuck change ts at child why here refused = ap (item_changed change at ts) here ∙ ap (in_list at ts) refused
-
 -- ---- the exit of a change that was refused in a part of it
 
 stopped : {A B : Type 0} (why : Refusal) (from : Result A Refusal) (to : Result B Refusal) → Does (Err why) from → (from ≡ Err why → to ≡ Err why) → Does (Err why) to
