@@ -1,6 +1,7 @@
 -- The tests of a call on a document, in their order.
 use Rattle.std.specs.Prelude.{ℕ, suc, ◌==◌, nat_lt, not, ◌&&◌, Bool, true, false, if◌then◌else◌, List, [], ◌∷◌, length, Option, Some, None, is_some}
 use Rattle.std.specs.List.{list_any}
+use Rattle.cbt_subdoc.specs.Along.{max_changes}
 use Rattle.cbt_doc.specs.declared.docs.Doc.{Doc}
 use Rattle.cbt_doc.specs.declared.docs.DocMut.{DocMut}
 use Rattle.cbt_doc.specs.declared.docs.DocExpect.{DocExpect}
@@ -48,12 +49,9 @@ abbrev pub misplaced : Option ℕ → Option DocFault → Option DocFault
 misplaced (Some i) other = Some (Order i)
 misplaced None other = other
 
--- the most paths of a call
-abbrev pub max_paths : ℕ
-max_paths = 16
-
--- third: the paths, for a document with a body or without
+-- third: the paths, of which there are no more than `mutate` takes, for a document with a body or
+-- without
 abbrev pub paths_fault : List DocMut → Bool → Option DocFault
 paths_fault ms live =
-    if nat_lt max_paths (length ms) then Some (TooManyPaths (length ms))
+    if nat_lt max_changes (length ms) then Some (TooManyPaths (length ms))
     else misplaced (order_fault 0 false ms) (fault_where (not live && has_body_path ms) Deleted)

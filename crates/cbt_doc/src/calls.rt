@@ -13,7 +13,9 @@ use cbt_subdoc::{Look, LookAnswer, lookup};
 use std::alloc::Global;
 
 /// Makes a call on the document of a slot: the changes at its paths in order, then what it makes of
-/// the body; the document then has the CAS. A refused call leaves the slot as it was.
+/// the body; the document then has the CAS. A fault is the first that is met: of what the call
+/// expects, of its change of the body, of its paths as a whole, of one change after another. A
+/// refused call leaves the slot as it was.
 pub fn change_doc(
     alloc: Global,
     slot: &mut Option<Doc>,
@@ -50,7 +52,8 @@ fn changed_doc(alloc: Global, slot: Option<&Doc>, call: &DocCall, cas: u64) -> R
     Ok(finish(alloc, content, &call.body, cas)?)
 }
 
-/// Answers each look into the attributes of a document, or into its body.
+/// Answers each look into the attributes of a document, where `attr` is set, or else into its body;
+/// a tombstone, which has none, is `Deleted`.
 pub fn look_doc(
     alloc: Global,
     doc: &Doc,

@@ -43,6 +43,7 @@ pub enum DocExpect {
 /// A change at a path into the attributes or into the body.
 #[derive(Debug, Drop)]
 pub struct DocMut {
+    /// Whether the path leads into the attributes.
     pub attr: bool,
     pub change: Mut,
 }
