@@ -1,6 +1,11 @@
+pub mod ByRecursion
 pub mod Spaces
 pub mod Pieces
 pub mod Parted
 pub mod Lined
 pub mod Onward
 pub mod OneLine
+pub mod LinesBack
+pub mod WordsBack
+pub mod DecimalsBack
+pub mod NamesBack

@@ -9,16 +9,13 @@ use Rattle.cbt_lex.specs.Pieces.{pieces}
 use Rattle.cbt_lex.proofs.Pieces.{is_end, first_piece}
 
 -- a first piece with its feed, and what stands behind it
-with_feed : (n : ℕ) (text : List ℕ) → ended (take n text ∷ pieces 10 (drop (n + 1) text)) ≡ without_return (take n text) ∷ lines_of (drop (n + 1) text)
-with_feed n text =
-    let rest = drop (n + 1) text in
-    let e = first_piece 10 rest in
-    ap (λ q. ended (take n text ∷ q)) e ∙ ap (λ q. without_return (take n text) ∷ ended q) (sym e)
+pub with_feed : (line rest : List ℕ) → ended (line ∷ pieces 10 rest) ≡ without_return line ∷ lines_of rest
+with_feed line rest = let e = first_piece 10 rest in ap (λ q. ended (line ∷ q)) e ∙ ap (λ q. without_return line ∷ ended q) (sym e)
 
 first_line_if : (h : Bool) (n b : ℕ) (bs : List ℕ) → nat_lt n (length (b ∷ bs)) ≡ h → n ≤ length (b ∷ bs)
     → ended (take n (b ∷ bs) ∷ cond h (pieces 10 (drop (n + 1) (b ∷ bs))) [])
     ≡ (cut_at (cond h (Some n) None) (b ∷ bs)).0 ∷ lines_of (cut_at (cond h (Some n) None) (b ∷ bs)).1
-first_line_if true n b bs is le = with_feed n (b ∷ bs)
+first_line_if true n b bs is le = with_feed (take n (b ∷ bs)) (drop (n + 1) (b ∷ bs))
 first_line_if false n b bs is le =
     let k = ltb-false n (length (b ∷ bs)) is in let e : n ≡ length (b ∷ bs) = omega arith in ap (λ m. last_line (take m (b ∷ bs))) e ∙ ap last_line (take-length (b ∷ bs))
 

@@ -4,6 +4,7 @@ use Rattle.std.specs.List.{position_or_len}
 use Rattle.cbt_lex.specs.Lines.{skip_spaces}
 use Rattle.cbt_lex.specs.Words.{word_and_rest, words_of}
 use Rattle.cbt_lex.proofs.Parted.{words_begin}
+use Rattle.cbt_lex.proofs.Pieces.{Halves}
 
 shorter_if : (t : Bool) (b : ℕ) (bs : List ℕ) → length (skip_spaces bs) ≤ length bs → length (cond t (skip_spaces bs) (b ∷ bs)) ≤ length (b ∷ bs)
 shorter_if true b bs ih = omega arith
@@ -24,9 +25,6 @@ skipped_once (b ∷ bs) = again_if (b == 32) b bs refl (skipped_once bs)
 led_if : (t : Bool) (b : ℕ) (bs : List ℕ) → (b == 32) ≡ t → cond t (skip_spaces bs) (b ∷ bs) ≡ b ∷ bs → (b == 32) ≡ false
 led_if true b bs is same = let e = ap length same in let l = skipped_is_shorter bs in absurd (omega arith)
 led_if false b bs is same = is
-
-abbrev Halves : Type 0
-Halves = List ℕ × List ℕ
 
 rest_if : (h : Bool) (n : ℕ) (text : List ℕ) → 0 < length text → length (cond {A = Halves} h (take n text, skip_spaces (drop (n + 1) text)) (text, [])).1 < length text
 rest_if true n text some = let a = skipped_is_shorter (drop (n + 1) text) in omega (arith, length-drop (n + 1) text)

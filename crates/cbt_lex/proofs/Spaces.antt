@@ -1,13 +1,22 @@
 -- Spaces at the front of a text.
-use Rattle.std.proofs.Common.{◌≡◌, ℕ, Bool, true, false, ◌==◌, cond, List, [], ◌∷◌, refl, ap}
-use Rattle.std.proofs.lemmas.Bool.{eqb-true}
+use Rattle.std.proofs.Common.{◌≡◌, ℕ, cond, List, [], ◌∷◌, refl, ap}
+use Rattle.std.proofs.lemmas.Bool.{ne_eqb}
 use Rattle.cbt_lex.specs.Lines.{skip_spaces}
 
-kept : (t : Bool) (b : ℕ) (bs : List ℕ) → (b == 32) ≡ t → ((rest : List ℕ) → b ∷ bs ≡ 32 ∷ rest → ⊥) → cond t (skip_spaces bs) (b ∷ bs) ≡ b ∷ bs
-kept true b bs is none = absurd (none bs (ap (λ x. x ∷ bs) (eqb-true b 32 is)))
-kept false b bs is none = refl
+-- a text that begins with no space
+abbrev pub IsLed : List ℕ → Type 0
+IsLed [] = Unit {0}
+IsLed (b ∷ bs) = b ≡ 32 → ⊥
 
--- a text without one stays
+pub skip_led : (text : List ℕ) → IsLed text → skip_spaces text ≡ text
+skip_led [] led = refl
+skip_led (b ∷ bs) led = ap (λ t. cond t (skip_spaces bs) (b ∷ bs)) (ne_eqb b 32 led)
+
+-- what is behind a space and begins with none
+pub behind_space : (text : List ℕ) → IsLed text → skip_spaces (32 ∷ text) ≡ text
+behind_space text led = skip_led text led
+
+-- a text that is no space with a rest behind it
 pub none_skipped : (t : List ℕ) → ((rest : List ℕ) → t ≡ 32 ∷ rest → ⊥) → skip_spaces t ≡ t
 none_skipped [] none = refl
-none_skipped (b ∷ bs) none = kept (b == 32) b bs refl none
+none_skipped (b ∷ bs) none = skip_led (b ∷ bs) (λ same. none bs (ap (λ x. x ∷ bs) same))

@@ -1,5 +1,6 @@
 -- The lines of a text.
-use Rattle.std.specs.Prelude.{ℕ, ◌+◌, ◌==◌, if◌then◌else◌, List, [], ◌∷◌, take, drop, reverse, position, Option, Some, None}
+use Rattle.std.specs.Prelude.{◌≢◌, ℕ, ◌+◌, ◌==◌, if◌then◌else◌, List, [], ◌∷◌, ◌++◌, take, drop, reverse, position, codes, Option, Some, None}
+use Rattle.std.specs.List.{All}
 use Rattle.cbt_lex.specs.Pieces.{pieces}
 
 -- a text without the spaces at its front
@@ -44,3 +45,12 @@ ended (piece ∷ next ∷ pieces) = without_return piece ∷ ended (next ∷ pie
 -- the lines of a text
 abbrev pub lines_of : List ℕ → List (List ℕ)
 lines_of text = ended (pieces 10 text)
+
+-- lines as a text, each ended by a line feed
+abbrev pub lined : List (List ℕ) → List ℕ
+lined [] = []
+lined (line ∷ lines) = line ++ codes "\n" ++ lined lines
+
+-- no byte of a text is a line feed
+abbrev pub IsOneLine : List ℕ → Type 0
+IsOneLine text = All (λ b. b ≢ 10) text

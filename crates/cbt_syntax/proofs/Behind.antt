@@ -24,7 +24,7 @@ behind-split (w ∷ ws) (b ∷ bs) rest e =
     let p = by_test (eqb w b) (behind ws bs) rest e in
     ap₂ (λ x xs. x ∷ xs) (sym (eqb-true w b p.0)) (behind-split ws bs rest p.1)
 
-none_where : (o : Option (List ℕ)) → ((rest : List ℕ) → o ≡ Some rest → ⊥) → o ≡ None
+pub none_where : (o : Option (List ℕ)) → ((rest : List ℕ) → o ≡ Some rest → ⊥) → o ≡ None
 none_where None never = refl
 none_where (Some rest) never = absurd (never rest refl)
 

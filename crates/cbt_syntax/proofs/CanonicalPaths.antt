@@ -17,7 +17,7 @@ use Rattle.cbt_syntax.specs.declared.references.Within.{Within}
 use Rattle.cbt_syntax.specs.declared.references.Within.TheVariants.{Steps, Ticks, Brackets}
 use Rattle.cbt_syntax.specs.References.{is_word_byte, stops, led_to, path_end, as_path, named_path, path_in}
 use Rattle.cbt_syntax.specs.Texts.{is_word, name_text, part_text, path_text}
-use Rattle.cbt_syntax.proofs.NamesBack.{AllNameable, all-nameable, IsPathText, path_of-text, path_in-parsed, parsed_text}
+use Rattle.cbt_syntax.proofs.NamesBack.{no_close, AllNameable, all-nameable, IsPathText, path_of-text, path_in-parsed, parsed_text}
 
 -- ---- the text of a path goes on with each byte of it
 
@@ -90,11 +90,8 @@ name_by : (name : List ℕ) (t : Bool) → length (cond t name (96 ∷ (doubled 
 name_by name true = omega (arith, doubled-long name, length-append (doubled name) (96 ∷ []))
 name_by name false = omega arith
 
-digit_stays : (n : ℕ) → n < 10 → eqb (48 + n) 93 ≡ false
-digit_stays n small = grind (arith, nat_tests)
-
 digit-runs : (n : ℕ) (rest : List ℕ) → n < 10 → Runs Brackets ((48 + n) ∷ rest) → Runs Brackets rest
-digit-runs n rest small runs = subst (λ w. Runs w rest) (ap (λ t. cond t Steps Brackets) (digit_stays n small)) runs.1
+digit-runs n rest small runs = subst (λ w. Runs w rest) (ap (λ t. cond t Steps Brackets) (no_close n small)) runs.1
 
 abbrev RunsOn : ℕ → List ℕ → Type 0
 RunsOn n ds = (rest : List ℕ) → Runs Brackets (ds ++ rest) → Runs Brackets rest

@@ -1,16 +1,12 @@
 -- The digits of a number, read one after another.
-use Rattle.std.proofs.Common.{◌≡◌, ℕ, ◌+◌, ◌-◌, ◌*◌, ◌^◌, ◌<◌, Bool, true, false, cond, ltb, List, ◌∷◌, length, drop, get_or, Some, None, refl, sym, ap, ◌∙◌, arith, drop-cons, add-one}
+use Rattle.std.proofs.Common.{◌≡◌, ℕ, ◌+◌, ◌-◌, ◌*◌, ◌^◌, ◌<◌, true, cond, ltb, List, ◌∷◌, length, drop, get_or, Some, None, sym, ap, ◌∙◌, arith, drop-cons, add-one}
 use Rattle.std.proofs.lemmas.Bool.Decides.{nat_tests}
 use Rattle.std.proofs.lemmas.Str.{IsCharBoundary-after_ascii}
 use Rattle.std.specs.Str.{IsCharBoundary, IsUtf8}
 use Rattle.cbt_lex.specs.Decimals.{is_digit}
+use Rattle.cbt_subdoc.proofs.Digits.{digit_made}
 use Rattle.cbt_syntax.specs.Readings.{Read}
 use Rattle.cbt_syntax.specs.Numbers.{digits}
-
--- whether a digit follows, by the number that it makes
-digit_made : (t : Bool) (more made : ℕ) → Some more ≡ cond t (Some made) None → (t ≡ true) × (more ≡ made)
-digit_made true more made e = (refl, cc)
-digit_made false more made e = absurd (cc)
 
 digits-more : (n b more : ℕ) (rest : List ℕ) → is_digit b ≡ true → Some more ≡ cond (ltb (n * 10 + (b - 48)) (2 ^ 64)) (Some (n * 10 + (b - 48))) None
     → digits n (b ∷ rest) ≡ digits more rest

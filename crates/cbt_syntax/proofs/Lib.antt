@@ -13,7 +13,6 @@ pub mod NamesBack
 pub mod Shapes
 pub mod TermsBack
 pub mod ReadBack
-pub mod Inserted
 pub mod CanonicalPaths
 pub mod WellRead
 pub mod CleanTexts

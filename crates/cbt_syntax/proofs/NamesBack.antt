@@ -1,11 +1,12 @@
 -- The text of a name and of a path is read as it.
-use Rattle.std.proofs.Common.{◌≡◌, ℕ, ◌+◌, ◌%◌, ◌^◌, ◌<◌, ◌≤◌, Bool, true, false, cond, not, ◌&&◌, eqb, ltb, leb, List, [], ◌∷◌, ◌++◌, length, take, drop, Option, Some, None, Result, Ok, Err, refl, subst, ap, ◌∙◌, arith, append_assoc, decimal, length-append}
-use Rattle.std.proofs.lemmas.Bool.{and_parts, and_from}
+use Rattle.std.proofs.Common.{◌≡◌, ℕ, ◌+◌, ◌%◌, ◌^◌, ◌<◌, ◌≤◌, Bool, true, false, cond, not, eqb, ltb, List, [], ◌∷◌, ◌++◌, length, take, drop, Option, Some, None, Result, Ok, Err, refl, subst, ap, ◌∙◌, arith, append_assoc, decimal, length-append}
+use Rattle.std.proofs.lemmas.Bool.{and_parts}
 use Rattle.std.proofs.lemmas.Bool.Decides.{nat_tests}
 use Rattle.std.proofs.lemmas.Fmt.{decimal_by_steps}
 use Rattle.std.proofs.Math.Seq.{take-append_seam, drop-append_seam}
 use Rattle.std.specs.List.{prefix_len, list_all}
-use Rattle.cbt_lex.specs.Names.{is_lower, is_name, is_name_byte}
+use Rattle.cbt_lex.specs.Names.{is_name, is_name_byte}
+use Rattle.cbt_lex.proofs.NamesBack.{name_bytes}
 use Rattle.cbt_subdoc.specs.declared.path.Part.{Part}
 use Rattle.cbt_subdoc.specs.declared.path.Part.TheVariants.{Name, Place, Last}
 use Rattle.cbt_subdoc.specs.declared.path.PathFault.{PathFault}
@@ -33,20 +34,10 @@ all_counted p (b ∷ name) rest all ends =
     let tail = all_counted p name rest h.1 ends in
     ap (λ t. cond t (1 + prefix_len p (name ++ rest)) 0) h.0 ∙ omega (arith, tail)
 
-lower_is_byte : (b : ℕ) → is_lower b ≡ true → is_name_byte b ≡ true
-lower_is_byte b e = grind (arith, nat_tests)
-
-name-bytes : (name : List ℕ) → is_name name ≡ true → list_all is_name_byte name ≡ true
-name-bytes [] e = absurd (cc)
-name-bytes (b ∷ bs) e =
-    let h = and_parts (is_lower b && leb (length bs) 31) (list_all is_name_byte bs) e in
-    let k = and_parts (is_lower b) (leb (length bs) 31) h.0 in
-    and_from (is_name_byte b) (list_all is_name_byte bs) (lower_is_byte b k.0) h.1
-
 pub name_at-text : (bound : List ℕ → Bool) (name rest : List ℕ) → is_name name ≡ true → bound name ≡ true → prefix_len is_name_byte rest ≡ 0
     → name_at bound (name ++ rest) ≡ Ok (name, rest)
 name_at-text bound name rest is known ends =
-    ap (λ n. name_of bound n (name ++ rest)) (all_counted is_name_byte name rest (name-bytes name is) ends)
+    ap (λ n. name_of bound n (name ++ rest)) (all_counted is_name_byte name rest (name_bytes name is) ends)
     ∙ ap (λ w. cond (not (is_name w)) (Err Malformed) (cond (bound w) (Ok (w, drop (length name) (name ++ rest))) (Err Unbound))) (take-append_seam name rest)
     ∙ ap (λ t. cond (not t) (Err Malformed) (cond (bound name) (Ok (name, drop (length name) (name ++ rest))) (Err Unbound))) is
     ∙ ap (λ t. cond t (Ok (name, drop (length name) (name ++ rest))) (Err Unbound)) known
@@ -108,7 +99,7 @@ passes-name name false is =
     passes-append Steps Ticks Steps (96 ∷ []) (doubled name ++ 96 ∷ []) (passes-byte Steps Ticks 96 refl refl)
     (passes-append Ticks Ticks Steps (doubled name) (96 ∷ []) (passes-doubled name) (passes-byte Ticks Steps 96 refl refl))
 
-no_close : (n : ℕ) → n < 10 → eqb (48 + n) 93 ≡ false
+pub no_close : (n : ℕ) → n < 10 → eqb (48 + n) 93 ≡ false
 no_close n small = grind (arith, nat_tests)
 
 digit-passes : (n : ℕ) → n < 10 → Passes Brackets Brackets ((48 + n) ∷ [])

@@ -4,13 +4,11 @@ use Rattle.std.proofs.lemmas.Bool.{ne_eqb, lt-ltb}
 use Rattle.std.proofs.lemmas.Bool.Decides.{nat_tests}
 use Rattle.std.proofs.lemmas.Fmt.{decimal_by_steps}
 use Rattle.cbt_lex.specs.Decimals.{is_digit}
+use Rattle.cbt_lex.proofs.DecimalsBack.{digit}
 use Rattle.cbt_syntax.specs.declared.fault.SyntaxFault.TheVariants.{NotWhole, Malformed}
 use Rattle.cbt_syntax.specs.Readings.{◌>>=◌}
 use Rattle.cbt_syntax.specs.Numbers.{digits, decimal_at, ended, negative_at, positive_at, number_at}
 use Rattle.cbt_syntax.proofs.Ends.{Ends, digits-end, goes_on-end}
-
-digit : (n : ℕ) → n < 10 → is_digit (48 + n) ≡ true
-digit n small = grind (arith, nat_tests)
 
 -- some digits begin with one, and are read as their number
 record ReadsNumber (n : ℕ) (ds : List ℕ) : Type 0 where
@@ -76,7 +74,7 @@ pub record Begins (text : List ℕ) : Type 0 where
 pub decimal-begins : (n : ℕ) → n < 2 ^ 64 → Begins (decimal n)
 decimal-begins n below = let r = reads-decimal n below in record { first = r.first; behind = r.behind; begins = r.begins; is_one = r.is_one }
 
-no_minus : (b : ℕ) → is_digit b ≡ true → eqb b 45 ≡ false
+pub no_minus : (b : ℕ) → is_digit b ≡ true → eqb b 45 ≡ false
 no_minus b e = grind (arith, nat_tests)
 
 positive-read : (n : ℕ) (rest : List ℕ) → n < 2 ^ 64 → Ends rest → positive_at (decimal n ++ rest) ≡ Ok (pos n, rest)

@@ -1,5 +1,5 @@
 -- The text of an expression or a condition, as a whole, is read as it.
-use Rattle.std.proofs.Common.{◌≡◌, ℕ, Bool, true, false, cond, eqb, leb, ◌&&◌, List, [], ◌∷◌, ◌++◌, length, codes, Option, Some, None, Ok, Err, refl, sym, ap, ◌∙◌, append-nil, arith}
+use Rattle.std.proofs.Common.{◌≡◌, ℕ, Bool, true, false, cond, eqb, leb, ◌&&◌, List, [], ◌∷◌, ◌++◌, length, codes, None, Ok, Err, refl, sym, ap, ◌∙◌, append-nil, arith}
 use Rattle.std.proofs.lemmas.Bool.{and_parts}
 use Rattle.std.proofs.lemmas.Bool.Decides.{nat_tests}
 use Rattle.std.specs.List.{list_all}
@@ -19,7 +19,7 @@ use Rattle.cbt_syntax.specs.Whole.{decided, any_name, expr_of, cond_of}
 use Rattle.cbt_syntax.specs.Texts.{expr_text, cmp_text, cond_text}
 use Rattle.cbt_syntax.specs.Rules.{IsBoundName, IsExpr, IsCond}
 use Rattle.cbt_syntax.proofs.Ends.{Stops}
-use Rattle.cbt_syntax.proofs.Behind.{behind-split}
+use Rattle.cbt_syntax.proofs.Behind.{behind-split, none_where}
 use Rattle.cbt_syntax.proofs.TermsBack.{not_byte, shape, expr-none, expr-unspaced, expr-back}
 
 plain-some : (rest : List ℕ) → plain_at (codes "some " ++ rest) ≡ Err Malformed
@@ -33,10 +33,6 @@ plain-none_word rest = refl
 plain-61 : (bs : List ℕ) → plain_at (61 ∷ bs) ≡ Err Malformed
 unfolding plain_at scalar_at word_at
 plain-61 bs = refl
-
-none_unless : (o : Option (List ℕ)) → ((rest : List ℕ) → o ≡ Some rest → ⊥) → o ≡ None
-none_unless None never = refl
-none_unless (Some rest) never = absurd (never rest refl)
 
 lower_no_space : (b : ℕ) → is_lower b ≡ true → eqb b 32 ≡ false
 lower_no_space b e = grind (arith, nat_tests)
@@ -71,14 +67,14 @@ module _ (bound : List ℕ → Bool) where
   -- where a whole expression is read, neither word is in front
   no-some : (text : List ℕ) (x : Expr × List ℕ) → expr_at bound max_levels text ≡ Ok x → behind (codes "some ") text ≡ None
   no-some text x e =
-      none_unless (behind (codes "some ") text)
+      none_where (behind (codes "some ") text)
       (λ rest is. (let cut = behind-split (codes "some ") text rest is in
       let k = refused max_levels 115 (codes "ome " ++ rest) refl refl refl (plain-some rest) in
       let m = ap (expr_at bound max_levels) cut in cc))
 
   no-none : (text : List ℕ) (x : Expr × List ℕ) → expr_at bound max_levels text ≡ Ok x → behind (codes "none ") text ≡ None
   no-none text x e =
-      none_unless (behind (codes "none ") text)
+      none_where (behind (codes "none ") text)
       (λ rest is. (let cut = behind-split (codes "none ") text rest is in
       let k = refused max_levels 110 (codes "one " ++ rest) refl refl refl (plain-none_word rest) in
       let m = ap (expr_at bound max_levels) cut in cc))

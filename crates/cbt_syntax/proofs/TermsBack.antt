@@ -35,7 +35,7 @@ use Rattle.cbt_syntax.specs.Rules.{is_scalar, names_of, IsMaybePath, IsBoundName
 use Rattle.cbt_syntax.proofs.Shapes.{term_form-Plain, term_form-Items, term_form-Ref, names-keys}
 use Rattle.cbt_syntax.proofs.Ends.{Ends, Stops, stops-ends, spaces-end, sign-stop}
 use Rattle.cbt_syntax.proofs.StringsBack.{string_text-quoted, string_at-text}
-use Rattle.cbt_syntax.proofs.NumbersBack.{decimal-begins, number_at-positive, number_at-negative}
+use Rattle.cbt_syntax.proofs.NumbersBack.{decimal-begins, no_minus, number_at-positive, number_at-negative}
 use Rattle.cbt_syntax.proofs.NamesBack.{name_at-text, maybe-path-text, maybe-path-no-name}
 use Rattle.cbt_syntax.proofs.Joins.{expr-text}
 
@@ -47,12 +47,9 @@ whole-read text rest z e = ap (λ r. r >>= (λ x. Ok (tree.Whole x.0, x.1))) e
 digit_no_quote : (b : ℕ) → is_digit b ≡ true → eqb b 34 ≡ false
 digit_no_quote b e = grind (arith, nat_tests)
 
-digit_no_minus : (b : ℕ) → is_digit b ≡ true → eqb b 45 ≡ false
-digit_no_minus b e = grind (arith, nat_tests)
-
 digit-scalar : (b : ℕ) (bs : List ℕ) → is_digit b ≡ true → scalar_at (b ∷ bs) ≡ whole_at (b ∷ bs)
 unfolding scalar_at
-digit-scalar b bs e = simp (digit_no_quote b e, digit_no_minus b e, e)
+digit-scalar b bs e = simp (digit_no_quote b e, no_minus b e, e)
 
 decimal-scalar : (n : ℕ) (rest : List ℕ) → n < 2 ^ 64 → scalar_at (decimal n ++ rest) ≡ whole_at (decimal n ++ rest)
 decimal-scalar n rest below =

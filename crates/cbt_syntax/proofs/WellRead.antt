@@ -9,6 +9,7 @@ use Rattle.std.specs.List.Sorted.{IsStrictlySortedBy}
 use Rattle.std.specs.Map.{keys_of}
 use Rattle.std.specs.BTreeMap.{insert_entry}
 use Rattle.cbt_base.specs.Keyed.{with_pair}
+use Rattle.cbt_base.proofs.Maps.{rises-with_pair}
 use Rattle.cbt_json.specs.declared.tree.Tree.{Tree}
 use Rattle.cbt_json.specs.declared.tree.Tree.TheVariants as tree
 use Rattle.cbt_json.specs.Trees.{data_of}
@@ -39,7 +40,6 @@ use Rattle.cbt_syntax.specs.Rules.{is_scalar, IsMaybePath, IsBoundName, IsForm, 
 use Rattle.cbt_syntax.proofs.Shapes.{term_form-Plain, term_form-Items, term_form-Ref, names-keys}
 use Rattle.cbt_syntax.proofs.Ranges.{InRange, number-range}
 use Rattle.cbt_syntax.proofs.CanonicalPaths.{Runs, runs-taken, canonical-path}
-use Rattle.cbt_syntax.proofs.Inserted.{rises-insert}
 
 -- ---- what holds of all that a reading gives
 
@@ -67,7 +67,7 @@ unbound-never (Ok y) x e = cc
 unbound-never (Err fault) x e = cc
 
 -- what is decided on is what the reading gives
-decided-ok : {A : Type 0} (r s : Outcome A) (x : A) → decided r s ≡ Ok x → r ≡ Ok x
+pub decided-ok : {A : Type 0} (r s : Outcome A) (x : A) → decided r s ≡ Ok x → r ≡ Ok x
 decided-ok (Ok y) s x e = e
 decided-ok (Err NotWhole) s x e = absurd (cc)
 decided-ok (Err Malformed) s x e = absurd (cc)
@@ -203,7 +203,7 @@ module _ (bound : List ℕ → Bool) where
     are-insert (e ∷ es) k v are is = are_by e es (insert_entry (slice_cmp nat_cmp) es k v) k v (slice_cmp nat_cmp k e.0) are is (are-insert es k v are.1 is)
 
     keep-insert : (found : List (List ℕ × Expr)) (k : List ℕ) (v : Expr) → Keep found → IsForm bound n (form_of v) → Keep (with_pair (slice_cmp nat_cmp) found k v)
-    keep-insert found k v keep is = (rises-insert (slice_cmp nat_cmp) nat_list_cmp_total found k v keep.0, are-insert found k v keep.1 is)
+    keep-insert found k v keep is = (rises-with_pair (slice_cmp nat_cmp) nat_list_cmp_total found k v keep.0, are-insert found k v keep.1 is)
 
     abbrev MemberKeeps : (List ℕ × Expr) × List ℕ → Type 0
     MemberKeeps x = IsForm bound n (form_of x.0.1)
