@@ -6,7 +6,6 @@ mod outcomes;
 mod plain;
 mod readings;
 
-pub use outcomes::perform;
 pub use plain::Plain;
 
 #[cfg(test)]

@@ -1,3 +1,5 @@
+//! The node: its state with the history of its calls.
+
 ghost use Rattle.std.specs.Prelude.{◌≡◌, ℕ, ◌+◌, ◌-◌, ◌^◌, ◌≤◌, length};
 ghost use Rattle.cbt_base.specs.Clock.{held};
 ghost use Rattle.cbt_plain.specs.Counts.{count_of};

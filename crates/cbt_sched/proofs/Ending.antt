@@ -8,13 +8,12 @@ use Rattle.cbt_model.specs.History.{own}
 use Rattle.cbt_model.specs.Legal.{calls_below, one_of}
 use Rattle.cbt_model.specs.declared.events.Event.{Event}
 use Rattle.cbt_model.specs.declared.events.Made.{Made}
-use Rattle.cbt_model.specs.declared.events.Mark.{Mark}
 use Rattle.cbt_model.specs.declared.states.State.{State}
 use Rattle.cbt_model.specs.declared.steps.Step.{Step}
 use Rattle.cbt_model.proofs.Longer.{calls_below-next, length-next, own-length}
 use Rattle.cbt_sched.specs.Driving.{AllStand, Stands}
 use Rattle.cbt_sched.specs.Stopping.{first_stop}
-use Rattle.cbt_sched.specs.Turns.{AddsMarks, callers, calls_of}
+use Rattle.cbt_sched.specs.Turns.{callers, calls_of}
 use Rattle.cbt_sched.proofs.Counting.{eq-same}
 
 -- an item of a list, and the counterpart of one in a list that is as long
@@ -121,13 +120,3 @@ known-callers first count s s' old added new grown others i e there behind = (
         let all = calls_below-callers new e.actor in
         let once = called-once added (i - length old) e added-there in
         omega arith
-
--- marks that were added stay added, though memory was refused later
-pub adds-later : (refused refused' : Bool) (due old new new' : List Mark) → (refused' ≡ false → refused ≡ false) → new' ≡ new
-    → AddsMarks refused due old new → AddsMarks refused' due old new'
-adds-later refused refused' due old new new' sticky same adds = record {
-  added = adds.added;
-  grown = same ∙ adds.grown;
-  among = adds.among;
-  all = λ fine. adds.all (sticky fine);
-}

@@ -162,9 +162,6 @@ module _ (first count : ℕ) (ordered : List ℕ) (at_first : ℕ → Bool) (r :
   pub agrees-itself : Agrees calls asking (calls_of calls)
   agrees-itself = record { least = λ a. omega arith; exact = λ a none. refl }
 
-  pub agreed-ordered : Agrees ordered at_first (calls_of calls)
-  agreed-ordered = whole.agreed (calls_of calls) agrees-itself
-
   none_left : (q : ℕ) → r ≤ q → (a : ℕ) → first ≤ a → left_after (calls_of calls) ordered a ≤ q
   none_left q low a high = let at = whole.behind a (omega arith) in let most = at.at_most in omega arith
 

@@ -11,16 +11,6 @@ pub record IsVisiting (number : ℕ) (limit left : Option ℕ) (old now : List �
   pub remaining : limit ≡ option_map (λ k. k + calls) left
   pub ended : before ≡ false → (calls ≡ 0) × (asking ≡ false)
 
-pub visiting-none : (number : ℕ) (limit : Option ℕ) (old : List ℕ) (before : Bool) → IsVisiting number limit limit old old before before
-visiting-none number limit old before = record { calls = 0; added = sym (append-nil old); remaining = same limit; ended = λ none. (refl, none) }
-  where
-    zero-more : (k : ℕ) → k ≡ k + 0
-    zero-more k = omega arith
-
-    same : (o : Option ℕ) → o ≡ option_map (λ k. k + 0) o
-    same None = refl
-    same (Some k) = ap (λ n. Some n) (zero-more k)
-
 -- one call more
 pub visiting-next : (number : ℕ) (limit left left' : Option ℕ) (old now next : List ℕ) (before asking after : Bool)
     → IsVisiting number limit left old now before asking → Called number now next asking → left ≢ Some 0 → left' ≡ option_map (λ k. k - 1) left
@@ -43,36 +33,6 @@ visiting-next number limit left left' old now next before asking after so_far ca
     shift : (o : Option ℕ) → o ≢ Some 0 → option_map (λ k. k + so_far.calls) o ≡ option_map (λ k. k + (so_far.calls + 1)) (option_map (λ k. k - 1) o)
     shift None apart = refl
     shift (Some k) apart = ap (λ n. Some n) (shift-one k apart)
-
--- the limit allows what was made
-within-limit : (calls : ℕ) (limit left : Option ℕ) → limit ≡ option_map (λ k. k + calls) left → (k : ℕ) → limit ≡ Some k → calls ≤ k
-within-limit calls limit None remaining k is = absurd (let clash : ◌≡◌ {A = Option ℕ} None (Some k) = sym remaining ∙ is in cc)
-within-limit calls limit (Some m) remaining k is = let both : Some (m + calls) ≡ Some k = sym remaining ∙ is in let same : m + calls ≡ k = cc in omega arith
-
--- the limit is reached
-pub visits-full : (number : ℕ) (limit left : Option ℕ) (old now : List ℕ) (before asking : Bool)
-    → IsVisiting number limit left old now before asking → left ≡ Some 0 → Visits number limit old now before asking
-visits-full number limit left old now before asking so_far spent = record {
-  calls = so_far.calls;
-  added = so_far.added;
-  within = within-limit so_far.calls limit left so_far.remaining;
-  full = inl (so_far.remaining ∙ ap (λ o. option_map (λ k. k + so_far.calls) o) spent ∙ ap (λ n. Some n) (zero-before so_far.calls));
-  ended = so_far.ended;
-}
-  where
-    zero-before : (n : ℕ) → 0 + n ≡ n
-    zero-before n = omega arith
-
--- the actor has ended
-pub visits-ended : (number : ℕ) (limit left : Option ℕ) (old now next : List ℕ) (before asking after : Bool)
-    → IsVisiting number limit left old now before asking → Idle now next after → Visits number limit old next before after
-visits-ended number limit left old now next before asking after so_far idle = record {
-  calls = so_far.calls;
-  added = idle.same ∙ so_far.added;
-  within = within-limit so_far.calls limit left so_far.remaining;
-  full = inr idle.ended;
-  ended = λ none. ((so_far.ended none).0, idle.ended);
-}
 
 -- a turn is a visit of one call
 pub visits-one : (number : ℕ) (old new : List ℕ) (before after : Bool) → Called number old new before → Visits number (Some 1) old new before after

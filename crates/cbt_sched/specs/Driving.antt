@@ -28,7 +28,7 @@ pub record Stands {A : Type 0} (stands_for : A → List Made → Type 0) (step_n
   pub stands : stands_for now l
   pub origin : same_origin begun now
   pub within : (k : ℕ) → stop ≡ Some k → length l ≤ k
-  pub cause : refused ≡ false → is_stopped begun ≡ false → is_stopped now ≡ true → StopReached stands_for step_now stop l
+  pub cause : refused ≡ false → is_stopped begun ≡ false → is_stopped now ≡ true → StopReached stands_for step_now same_origin stop begun l
 
 -- the same of each actor of a list, whose numbers begin with first
 pub record AllStand {A : Type 0} (stands_for : A → List Made → Type 0) (step_now : A → Option Step) (is_stopped : A → Bool) (same_origin : A → A → Type 0)

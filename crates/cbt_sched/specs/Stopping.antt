@@ -8,9 +8,11 @@ use Rattle.cbt_model.specs.declared.steps.Step.{Step}
 abbrev pub first_stop : List (ℕ × ℕ) → ℕ → Option ℕ
 first_stop stops actor = option_map (λ s. s.1) (find (λ s. s.0 == actor) stops)
 
--- an actor with this own list came to its stop, and had a next step then
-pub record StopReached {A : Type 0} (stands_for : A → List Made → Type 0) (step_now : A → Option Step) (stop : Option ℕ) (l : List Made) : Type 0 where
+-- an actor with this own list came to its stop, and had a next step then, made with what it was begun with
+pub record StopReached {A : Type 0} (stands_for : A → List Made → Type 0) (step_now : A → Option Step) (same_origin : A → A → Type 0)
+    (stop : Option ℕ) (begun : A) (l : List Made) : Type 0 where
   pub reached : stop ≡ Some (length l)
   pub before : A
+  pub origin : same_origin begun before
   pub stands : stands_for before l
   pub asks : IsSome (step_now before)
