@@ -1,7 +1,8 @@
 //! The canonical text of a script.
 
 ghost use Rattle.std.specs.Prelude.{◌≡◌, ◌++◌, IfOk, OnOk, codes, decimal};
-ghost use Rattle.cbt_script.specs.Printed.{lined, script_text, settings_lines, clock_lines, doc_lines, doc_line, attrs_lines, client_lines, txn_lines, plan_lines, op_lines, op_line, end_line, cleaner_lines, stop_lines, fault_lines, fault_line, fate_word, order_lines, items_text, item_text, sweep_lines, name_of, is_empty_object, labelled};
+ghost use Rattle.cbt_lex.specs.Lines.{lined};
+ghost use Rattle.cbt_script.specs.Printed.{script_text, settings_lines, clock_lines, doc_lines, doc_line, attrs_lines, client_lines, txn_lines, plan_lines, op_lines, op_line, end_line, cleaner_lines, stop_lines, fault_lines, fault_line, fate_word, order_lines, items_text, item_text, sweep_lines, name_of, is_empty_object, labelled};
 
 use crate::script::Script;
 use cbt_base::{DocId, NoMemory, Text};
