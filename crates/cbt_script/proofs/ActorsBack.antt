@@ -1,27 +1,12 @@
 -- The numbers that actors have by their names.
-use Rattle.std.proofs.Common.{◌≡◌, ℕ, zero, suc, ◌+◌, ◌<◌, cond, List, [], ◌∷◌, ◌++◌, length, get_or, Some, None, Ordering, Less, Equal, Greater, is_eq, ◌≢◌, refl, sym, ap, ◌∙◌, arith}
+use Rattle.std.proofs.Common.{◌≡◌, ℕ, zero, suc, ◌+◌, ◌<◌, List, [], ◌∷◌, ◌++◌, length, get_or, Some, None, ◌≢◌, refl, sym, ap, ◌∙◌, arith}
 use Rattle.std.specs.List.{AllByRecursion, All}
-use Rattle.std.specs.Map.{lookup}
-use Rattle.std.specs.BTreeMap.{insert_entry, is_at}
-use Rattle.std.specs.Ordering.{match_ordering}
 use Rattle.std.proofs.lemmas.List.Elements.{All-head, All-tail}
-use Rattle.cbt_base.specs.Keyed.{at_key, with_pair}
+use Rattle.cbt_base.specs.Keyed.{at_key}
 use Rattle.cbt_model.specs.Keys.{doc_cmp}
 use Rattle.cbt_script.specs.Course.{Actors, with_actor}
 use Rattle.cbt_script.specs.Rules.{AreDistinct}
-use Rattle.cbt_script.proofs.KeysBack.{at_other, at_same}
-
-module _ {K V : Type 0} (cmp : K → K → Ordering) where
-  longer_if : (e : K × V) (es : List (K × V)) (k : K) (v : V) (o : Ordering) → cmp k e.0 ≡ o → cond (is_eq o) (Some e.1) (lookup (is_at (cmp k)) es) ≡ None
-      → (lookup (is_at (cmp k)) es ≡ None → length (insert_entry cmp es k v) ≡ suc (length es))
-      → length (match_ordering o ((k, v) ∷ e ∷ es) ((e.0, v) ∷ es) (e ∷ insert_entry cmp es k v)) ≡ suc (length (e ∷ es))
-  longer_if e es k v Less is none ih = refl
-  longer_if e es k v Equal is none ih = absurd (cc)
-  longer_if e es k v Greater is none ih = ap suc (ih none)
-
-  pub longer : (es : List (K × V)) (k : K) (v : V) → at_key cmp es k ≡ None → length (with_pair cmp es k v) ≡ suc (length es)
-  longer [] k v none = refl
-  longer (e ∷ es) k v none = longer_if e es k v (cmp k e.0) refl none (longer es k v)
+use Rattle.cbt_script.proofs.KeysBack.{at_other, at_same, longer}
 
 -- the actors with further ones, in the order of their names
 abbrev pub actors_after : List (List ℕ) → Actors → Actors

@@ -6,6 +6,10 @@ use Rattle.std.proofs.lemmas.Cmp.{nat_cmp_total}
 use Rattle.std.proofs.lemmas.List.Elements.{All-head, All-tail}
 use Rattle.cbt_base.specs.Keyed.{at_key, with_pair, Rises}
 use Rattle.cbt_expr.specs.declared.plans.TxnPlan.{TxnPlan}
+use Rattle.cbt_lex.proofs.DecimalsBack.{decimal_word}
+use Rattle.cbt_lex.proofs.NamesBack.{name_word}
+use Rattle.cbt_lex.proofs.Spaces.{behind_space}
+use Rattle.cbt_lex.proofs.WordsBack.{led_word, led_last}
 use Rattle.cbt_model.specs.Keys.{doc_cmp}
 use Rattle.cbt_model.specs.declared.events.Fate.{Fate}
 use Rattle.cbt_script.specs.declared.cause.Cause.{Cause}
@@ -23,7 +27,7 @@ use Rattle.cbt_script.specs.Drafts.{start, group_number, atrs_of, cleaner_line, 
 use Rattle.cbt_script.specs.Fields.{actor_field, number_field, end_field}
 use Rattle.cbt_script.specs.Keywords.{keyword_of}
 use Rattle.cbt_script.specs.Operations.{Bound}
-use Rattle.cbt_script.specs.Printed.{cleaner_lines, name_of, stop_lines, is_fate, fate_word, fault_lines}
+use Rattle.cbt_script.specs.Printed.{cleaner_lines, name_of, stop_lines}
 use Rattle.cbt_script.specs.Printed as printed
 use Rattle.cbt_script.specs.Reading.{taken}
 use Rattle.cbt_script.specs.Rules.{IsActorName, IsCleaner, IsActor, IsStop, AreDistinct, rounds_of}
@@ -31,11 +35,10 @@ use Rattle.cbt_script.proofs.ActorsBack.{actors_after, NoneNamed, none_named_mor
 use Rattle.cbt_script.proofs.DocumentsBack.{entered}
 use Rattle.cbt_script.proofs.Drafted.{drafted, drafted_on, drafted_both}
 use Rattle.cbt_script.proofs.KeysBack.{AllBelow, insert_between, none_between, rises_below}
-use Rattle.cbt_script.proofs.KeywordsBack.{line_taken, led_last, number_field-last}
-use Rattle.cbt_script.proofs.NamesBack.{name_word}
+use Rattle.cbt_script.proofs.KeywordsBack.{line_taken}
 use Rattle.cbt_script.proofs.OperationsBack.{Client}
 use Rattle.cbt_script.proofs.SettingsBack.{all_settings}
-use Rattle.cbt_script.proofs.WordsBack.{led_word, behind_space, bytes_other, actor_field-next, decimal_word}
+use Rattle.cbt_script.proofs.FieldsBack.{actor_field-next, bytes_other, number_field-last}
 
 abbrev Both : Type 0
 Both = Actors × Course

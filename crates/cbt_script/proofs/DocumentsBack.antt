@@ -11,6 +11,8 @@ use Rattle.cbt_json.specs.declared.tree.Tree.TheVariants as tree
 use Rattle.cbt_json.specs.Reading.{json_of}
 use Rattle.cbt_json.specs.Trees.{text_of}
 use Rattle.cbt_json.proofs.Read.{json_of-text_of}
+use Rattle.cbt_lex.proofs.Spaces.{IsLed, behind_space}
+use Rattle.cbt_lex.proofs.WordsBack.{led_word}
 use Rattle.cbt_model.specs.Keys.{doc_cmp}
 use Rattle.cbt_script.specs.declared.cause.Cause.TheVariants.{Word, Form, Big, Twice, Limit, Attrs}
 use Rattle.cbt_script.specs.declared.draft.Draft.{Draft}
@@ -31,10 +33,9 @@ use Rattle.cbt_script.proofs.Attributed.{attributed_last}
 use Rattle.cbt_script.proofs.Drafted.{drafted, drafted_on, drafted_same, drafted_both}
 use Rattle.cbt_script.proofs.KeysBack.{at_other}
 use Rattle.cbt_script.proofs.KeywordsBack.{line_taken}
-use Rattle.cbt_script.proofs.LinesBack.{IsLed}
-use Rattle.cbt_script.proofs.NamesBack.{id_word}
 use Rattle.cbt_script.proofs.TextsBack.{json_edged}
-use Rattle.cbt_script.proofs.WordsBack.{led_word, behind_space, bytes_same, id_field-next}
+use Rattle.cbt_script.proofs.FieldsBack.{id_field-next, bytes_same}
+use Rattle.cbt_script.proofs.IdsBack.{id_word}
 
 abbrev pub Doc : Type 0
 Doc = List ℕ × Tree × Tree

@@ -1,5 +1,5 @@
 -- How the canonical texts of expressions and conditions begin and end.
-use Rattle.std.proofs.Common.{◌≡◌, ℕ, ◌<◌, Bool, true, false, cond, ltb, List, [], ◌∷◌, ◌++◌, length, Option, Some, None, decimal, codes, refl, sym, ap, ◌∙◌, arith, append_assoc, append-nil, length-append}
+use Rattle.std.proofs.Common.{◌≡◌, ℕ, ◌<◌, Bool, true, false, cond, ltb, List, [], ◌∷◌, ◌++◌, length, Option, Some, None, decimal, codes, refl, sym, ap, ◌∙◌, arith, append_assoc, append-nil}
 use Rattle.std.specs.List.{list_all}
 use Rattle.std.proofs.lemmas.Bool.{and_parts, ltb-true}
 use Rattle.std.proofs.lemmas.Bool.Decides.{nat_tests}
@@ -13,14 +13,15 @@ use Rattle.cbt_expr.specs.declared.expressions.Expr.{Expr}
 use Rattle.cbt_expr.specs.declared.expressions.Cond.{Cond}
 use Rattle.cbt_expr.specs.declared.expressions.Cond.TheVariants.{Compare, Has, Lacks}
 use Rattle.cbt_expr.specs.Forms.{Form, one, joined, TermForm, plain, list, object, reference, Items, no_items, item, Members, no_members, member, form_of}
+use Rattle.cbt_lex.proofs.ByRecursion.{all_weaker, all_pass}
+use Rattle.cbt_lex.proofs.LinesBack.{Closes, closes_at, closes_behind, closes_same, IsEdged, opened, edged_append}
+use Rattle.cbt_lex.proofs.NamesBack.{name_word}
+use Rattle.cbt_lex.proofs.WordsBack.{closes_word}
 use Rattle.cbt_syntax.specs.Conditions.{max_levels}
 use Rattle.cbt_syntax.specs.References.{is_word_byte}
 use Rattle.cbt_syntax.specs.Rules.{is_scalar, IsForm, IsTerm, IsExpr, IsCond}
 use Rattle.cbt_syntax.specs.Texts.{is_word, name_text, part_text, path_text, maybe_path_text, sign_text, string_text, comma, form_text, term_text, items_text, members_text, expr_text, cmp_text, cond_text}
-use Rattle.cbt_script.proofs.LinesBack.{Closes, closes_behind, closes_same, IsLed}
-use Rattle.cbt_script.proofs.WordsBack.{all_weaker}
-use Rattle.cbt_script.proofs.TextsBack.{IsEdged, data_edged, opened, closes_word, closes_word_of, closes_at}
-use Rattle.cbt_script.proofs.NamesBack.{name_word, all_pass}
+use Rattle.cbt_script.proofs.TextsBack.{data_edged}
 
 -- ---- paths
 
@@ -30,7 +31,7 @@ word_above b is = grind (arith, nat_tests)
 name_closes_if : (t : Bool) (name : List ℕ) → is_word name ≡ t → Closes (cond t name (96 ∷ (doubled name ++ 96 ∷ [])))
 name_closes_if true name is =
     let p = and_parts (ltb 0 (length name)) (list_all is_word_byte name) is in
-    closes_word_of name (ltb-true 0 (length name) p.0) (all_weaker word_above name (all_pass is_word_byte name p.1))
+    closes_word name (record { some = ltb-true 0 (length name) p.0; solid = all_weaker word_above name (all_pass is_word_byte name p.1) })
 name_closes_if false name is = closes_at (96 ∷ doubled name) 96 (omega arith)
 
 part_closes : (part : Part) → Closes (part_text part)
@@ -69,17 +70,6 @@ term_edged bound n (plain json) is = data_edged (data_of json) (λ m same. scala
 term_edged bound n (list forms) is = opened 91 (items_text false forms) (omega arith) (expr_items_close false forms)
 term_edged bound n (object ms) is = opened 123 (members_text false ms) (omega arith) (expr_members_close false ms)
 term_edged bound n (reference name path) is = opened 64 (name ++ maybe_path_text path) (omega arith) (maybe_path_closes name path (closes_word name (name_word name is.0.0)))
-
-led_append : (a b : List ℕ) → 0 < length a → IsLed a → IsLed (a ++ b)
-led_append [] b some led = absurd (omega arith)
-led_append (x ∷ xs) b some led = led
-
-pub edged_append : (a b : List ℕ) → IsEdged a → Closes b → IsEdged (a ++ b)
-edged_append a b edged closes = record {
-  some = (let more : 0 < length a = edged.some in omega (arith, length-append a b));
-  led = led_append a b edged.some edged.led;
-  closes = closes_behind a b closes;
-}
 
 form_edged : (bound : List ℕ → Bool) (n : ℕ) (form : Form) → IsForm bound n form → IsEdged (form_text form)
 form_edged bound n (one term) is = term_edged bound n term is

@@ -7,6 +7,8 @@ use Rattle.std.proofs.lemmas.Cmp.{nat_cmp_total, on_total, then_total}
 use Rattle.std.proofs.lemmas.List.Elements.{All-head, All-tail}
 use Rattle.cbt_base.specs.Keyed.{at_key, with_pair, Rises}
 use Rattle.cbt_expr.specs.declared.plans.TxnPlan.{TxnPlan}
+use Rattle.cbt_lex.proofs.NamesBack.{name_word}
+use Rattle.cbt_lex.proofs.WordsBack.{led_word}
 use Rattle.cbt_model.specs.Faults.{call_cmp}
 use Rattle.cbt_model.specs.Keys.{doc_cmp}
 use Rattle.cbt_model.specs.declared.events.Fate.{Fate}
@@ -24,7 +26,7 @@ use Rattle.cbt_script.specs.Drafts.{group_number, fault_line}
 use Rattle.cbt_script.specs.Fields.{number_field, end_field}
 use Rattle.cbt_script.specs.Keywords.{keyword_of}
 use Rattle.cbt_script.specs.Operations.{Bound}
-use Rattle.cbt_script.specs.Printed.{cleaner_lines, name_of, stop_lines, is_fate, fate_word, fault_lines}
+use Rattle.cbt_script.specs.Printed.{name_of, is_fate, fault_lines}
 use Rattle.cbt_script.specs.Printed as printed
 use Rattle.cbt_script.specs.Reading.{taken}
 use Rattle.cbt_script.specs.Rules.{IsActorName, IsActor, IsFault}
@@ -32,10 +34,9 @@ use Rattle.cbt_script.proofs.DocumentsBack.{entered}
 use Rattle.cbt_script.proofs.CourseBack.{Reaches, reach_on, reach_same, name_and_number, run, cleaning}
 use Rattle.cbt_script.proofs.Drafted.{drafted, drafted_on, drafted_both}
 use Rattle.cbt_script.proofs.KeysBack.{AllBelow, AllAbove, insert_between, none_between, rises_above}
-use Rattle.cbt_script.proofs.KeywordsBack.{line_taken, number_field-last}
-use Rattle.cbt_script.proofs.NamesBack.{name_word}
+use Rattle.cbt_script.proofs.KeywordsBack.{line_taken}
 use Rattle.cbt_script.proofs.OperationsBack.{Client}
-use Rattle.cbt_script.proofs.WordsBack.{led_word}
+use Rattle.cbt_script.proofs.FieldsBack.{number_field-last}
 
 -- calls by actor, and then by number
 call_cmp_total : IsTotalOrder call_cmp
@@ -86,9 +87,6 @@ module _ (s : Script) (ds : Documents) (done : List Client) (last : Option (List
   abbrev with_fates : Group → Fates → Draft
   with_fates g fates = run s ds done last txns bound tried g actors (record (cleaning s ds done last txns bound tried cleaners passes) { stops = stops; faults = record { fates = fates } })
 
-  known_is : (n : ℕ) → IsActor s n → known_actor actors (name_of s n) ≡ Ok n
-  known_is n is = ap known (numbers n is)
-
   module _ (g : Group) (low : group_number g ≤ 4) (first rest : Fates) (actor call : ℕ) (is : IsActor s actor) (least : 1 ≤ call) (high : call ≤ 1000000)
       (below : AllBelow call_cmp first (actor, call)) (above : AllAbove call_cmp rest (actor, call)) where
     abbrev at_fault : Draft
@@ -111,7 +109,7 @@ module _ (s : Script) (ds : Documents) (done : List Client) (last : Option (List
         (name_and_number (name_of s actor) call (names actor is) fits)
         ∙ ap (λ r. (r >>= (λ a. number_field 1 1000000 (decimal call) >>= (λ m. require (not (is_some (at_key call_cmp fates (a, m.0)))) Twice >>= (λ _. end_field m.1
         >>= (λ _. Ok (record at_fault.course { faults = record { fates = with_pair call_cmp fates (a, m.0) fate } })))))) >>= (λ c. Ok (record at_fault { group = group.Faults; course = c })))
-        (known_is actor is)
+        (ap known (numbers actor is))
         ∙ ap (λ r. (r >>= (λ m. require (not (is_some (at_key call_cmp fates (actor, m.0)))) Twice >>= (λ _. end_field m.1
         >>= (λ _. Ok (record at_fault.course { faults = record { fates = with_pair call_cmp fates (actor, m.0) fate } }))))) >>= (λ c. Ok (record at_fault { group = group.Faults; course = c })))
         (number_field-last 1 1000000 call least high fits)

@@ -1,5 +1,5 @@
--- What stands at a text in a map after a pair was put in, and pairs that are put in between others.
-use Rattle.std.proofs.Common.{◌≡◌, ℕ, cond, List, [], ◌∷◌, ◌++◌, Some, None, Ordering, Less, Greater, is_eq, refl, sym, ap, ◌∙◌}
+-- What stands at a text in a map after a pair was put in, its length, and pairs that are put in between others.
+use Rattle.std.proofs.Common.{◌≡◌, ℕ, cond, List, [], ◌∷◌, ◌++◌, length, suc, Some, None, Ordering, Less, Equal, Greater, is_eq, refl, sym, ap, ◌∙◌}
 use Rattle.std.specs.Cmp.{IsTotalOrder}
 use Rattle.std.specs.List.{AllByRecursion}
 use Rattle.std.specs.List.Sorted.{IsStrictlySortedBy}
@@ -10,8 +10,9 @@ use Rattle.std.proofs.lemmas.Cmp.{nat_list_cmp_total}
 use Rattle.std.proofs.lemmas.Map.Text.{is_eq-slice_cmp}
 use Rattle.cbt_base.specs.Keyed.{at_key, with_pair, Rises}
 use Rattle.cbt_base.proofs.Maps.{at_key-with_pair}
+use Rattle.cbt_base.proofs.Rising.{all-at}
+use Rattle.cbt_script.proofs.FieldsBack.{bytes_same, bytes_other}
 use Rattle.cbt_model.specs.Keys.{doc_cmp}
-use Rattle.cbt_script.proofs.WordsBack.{bytes_same, bytes_other}
 
 module _ {V : Type 0} where
   pub at_other : (m : List (List ℕ × V)) (key other : List ℕ) (v : V) → (key ≡ other → ⊥) → at_key doc_cmp (with_pair doc_cmp m key v) other ≡ at_key doc_cmp m other
@@ -25,6 +26,18 @@ module _ {V : Type 0} where
       ∙ ap (λ t. cond t (Some v) (at_key doc_cmp m key)) (is_eq-slice_cmp key key ∙ bytes_same key)
 
 module _ {K V : Type 0} (cmp : K → K → Ordering) where
+  longer_if : (e : K × V) (es : List (K × V)) (k : K) (v : V) (o : Ordering) → cmp k e.0 ≡ o → cond (is_eq o) (Some e.1) (lookup (is_at (cmp k)) es) ≡ None
+      → (lookup (is_at (cmp k)) es ≡ None → length (insert_entry cmp es k v) ≡ suc (length es))
+      → length (match_ordering o ((k, v) ∷ e ∷ es) ((e.0, v) ∷ es) (e ∷ insert_entry cmp es k v)) ≡ suc (length (e ∷ es))
+  longer_if e es k v Less is none ih = refl
+  longer_if e es k v Equal is none ih = absurd (cc)
+  longer_if e es k v Greater is none ih = ap suc (ih none)
+
+  -- a key that was not there makes a map longer
+  pub longer : (es : List (K × V)) (k : K) (v : V) → at_key cmp es k ≡ None → length (with_pair cmp es k v) ≡ suc (length es)
+  longer [] k v none = refl
+  longer (e ∷ es) k v none = longer_if e es k v (cmp k e.0) refl none (longer es k v)
+
   -- all keys stand before this one
   abbrev pub AllBelow : List (K × V) → K → Type 0
   AllBelow es k = AllByRecursion (λ e. cmp e.0 k ≡ Less) es
@@ -52,15 +65,11 @@ module _ {K V : Type 0} (cmp : K → K → Ordering) where
   keys_above k [] all = tt
   keys_above k (e ∷ rest) all = (all.0, keys_above k rest all.1)
 
-  first_below : (e : K × V) (es rest : List (K × V)) (k : K) (v : V) → AllByRecursion (λ y. cmp e.0 y ≡ Less) (keys_of (es ++ (k, v) ∷ rest)) → cmp e.0 k ≡ Less
-  first_below e [] rest k v all = all.0
-  first_below e (d ∷ es) rest k v all = first_below e es rest k v all.1
-
   -- the pairs before and behind one of those that rise
   pub rises_below : (es rest : List (K × V)) (k : K) (v : V) → Rises cmp (es ++ (k, v) ∷ rest) → AllBelow es k
   unfolding IsStrictlySortedBy
   rises_below [] rest k v rises = tt
-  rises_below (e ∷ es) rest k v rises = (first_below e es rest k v rises.0, rises_below es rest k v rises.1)
+  rises_below (e ∷ es) rest k v rises = (all-at (λ y. cmp e.0 y ≡ Less) es k v rest rises.0, rises_below es rest k v rises.1)
 
   pub rises_above : (es rest : List (K × V)) (k : K) (v : V) → Rises cmp (es ++ (k, v) ∷ rest) → AllAbove rest k
   unfolding IsStrictlySortedBy

@@ -4,10 +4,9 @@ pub mod Utf8
 pub mod ReadOn
 pub mod Lined
 pub mod Drafted
-pub mod LinesBack
-pub mod WordsBack
 pub mod TextsBack
-pub mod NamesBack
+pub mod FieldsBack
+pub mod IdsBack
 pub mod ExprsBack
 pub mod KeywordsBack
 pub mod KeysBack

@@ -1,14 +1,8 @@
 -- Lines put together.
-use Rattle.std.proofs.Common.{◌≡◌, ℕ, List, [], ◌∷◌, ◌++◌, refl, sym, ap, ◌∙◌, append_assoc, get_or, drop, length, ◌+◌, ◌<◌, suc, drop-cons, add-one}
+use Rattle.std.proofs.Common.{◌≡◌, ℕ, List, [], ◌∷◌, ◌++◌, sym, ap, ◌∙◌, append_assoc, get_or, drop, length, ◌+◌, ◌<◌, suc, drop-cons, add-one}
 use Rattle.std.proofs.lemmas.List.{append-nil}
-use Rattle.cbt_script.specs.Printed.{lined}
-
--- the lines of two parts, one behind the other
-pub lined_append : (a b : List (List ℕ)) → lined (a ++ b) ≡ lined a ++ lined b
-lined_append [] b = refl
-lined_append (line ∷ lines) b =
-    let e : lined (lines ++ b) ≡ lined lines ++ lined b = lined_append lines b in
-    ap (λ x. line ++ 10 ∷ [] ++ x) e ∙ sym (append_assoc (line ++ 10 ∷ []) (lined lines) (lined b))
+use Rattle.cbt_lex.specs.Lines.{lined}
+use Rattle.cbt_lex.proofs.LinesBack.{lined_append}
 
 -- further lines behind some
 pub grown : (out next : List ℕ) (lines more : List (List ℕ)) → out ≡ lined lines → next ≡ out ++ lined more → next ≡ lined (lines ++ more)

@@ -8,6 +8,9 @@ use Rattle.cbt_expr.specs.declared.plans.ClientPlan.{ClientPlan}
 use Rattle.cbt_expr.specs.declared.plans.Op.{Op}
 use Rattle.cbt_expr.specs.declared.plans.Op.TheVariants as op
 use Rattle.cbt_expr.specs.declared.plans.TxnPlan.{TxnPlan}
+use Rattle.cbt_lex.proofs.NamesBack.{name_word}
+use Rattle.cbt_lex.proofs.Spaces.{behind_space}
+use Rattle.cbt_lex.proofs.WordsBack.{word_literal, led_word, led_last}
 use Rattle.cbt_lex.specs.Names.{is_name}
 use Rattle.cbt_script.specs.declared.cause.Cause.TheVariants.{Form, Limit}
 use Rattle.cbt_script.specs.declared.clients.Terms.{Terms}
@@ -35,10 +38,9 @@ use Rattle.cbt_syntax.specs.Whole.{expr_of, cond_of}
 use Rattle.cbt_syntax.proofs.ReadBack.{expr_of-text, cond_of-text}
 use Rattle.cbt_script.proofs.Drafted.{drafted, drafted_on}
 use Rattle.cbt_script.proofs.ExprsBack.{expr_edged, cond_edged}
-use Rattle.cbt_script.proofs.KeywordsBack.{line_taken, led_last, id_field-last, name_field-last}
-use Rattle.cbt_script.proofs.NamesBack.{id_word, name_word}
-use Rattle.cbt_script.proofs.WordsBack.{led_word, behind_space, id_field-next, fixed_field-next}
-use Rattle.cbt_script.proofs.KeywordsBack.{word_literal}
+use Rattle.cbt_script.proofs.KeywordsBack.{line_taken}
+use Rattle.cbt_script.proofs.FieldsBack.{id_field-next, fixed_field-next, id_field-last, name_field-last}
+use Rattle.cbt_script.proofs.IdsBack.{id_word}
 
 abbrev pub Client : Type 0
 Client = List ℕ × ClientPlan

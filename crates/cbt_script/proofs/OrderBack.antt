@@ -1,14 +1,20 @@
 -- The printed order and the sweep are read back.
-use Rattle.std.proofs.Common.{◌≡◌, ℕ, suc, ◌+◌, ◌^◌, ◌<◌, ◌≤◌, Bool, true, cond, eqb, not, List, [], ◌∷◌, ◌++◌, length, map, take, drop, Option, Some, None, Ok, Err, bytes_eq, decimal, codes, refl, sym, ap, ◌∙◌, arith, append_assoc, append-nil, length-append, take_at, drop_at}
+use Rattle.std.proofs.Common.{◌≡◌, ℕ, ◌+◌, ◌^◌, ◌<◌, ◌≤◌, Bool, true, cond, not, List, [], ◌∷◌, ◌++◌, length, map, take, drop, Option, Some, None, Ok, Err, bytes_eq, decimal, codes, refl, sym, ap, ◌∙◌, arith, append_assoc, append-nil, length-append, take_at}
 use Rattle.std.specs.List.{All, AllByRecursion, position_or_len}
-use Rattle.std.proofs.lemmas.Bool.{ne_eqb, lt-ltb, le-ltb, and_from, eq-eqb, not_from_false}
+use Rattle.std.proofs.lemmas.Bool.{ne_eqb, lt-ltb, le-ltb, and_from, not_from_false}
 use Rattle.std.proofs.lemmas.List.Elements.{All-head, All-tail}
 use Rattle.cbt_base.specs.Keyed.{at_key}
+use Rattle.cbt_lex.proofs.ByRecursion.{all_weaker, all_behind, all_pass}
+use Rattle.cbt_lex.proofs.DecimalsBack.{decimal_digits, decimal_word}
+use Rattle.cbt_lex.proofs.NamesBack.{name_bytes, name_word}
 use Rattle.cbt_lex.specs.Decimals.{is_digit}
 use Rattle.cbt_lex.specs.Lines.{skip_spaces}
 use Rattle.cbt_lex.specs.Names.{is_name, is_name_byte}
 use Rattle.cbt_lex.specs.Words.{words_of}
 use Rattle.cbt_lex.proofs.Onward.{words_onward}
+use Rattle.cbt_lex.proofs.Pieces.{drop_past, is_end, Lacking, place_behind, place_past}
+use Rattle.cbt_lex.proofs.Spaces.{skip_led}
+use Rattle.cbt_lex.proofs.WordsBack.{IsWord, no_space, IsTail, word_next, led_word}
 use Rattle.cbt_model.specs.Keys.{doc_cmp}
 use Rattle.cbt_model.specs.declared.events.Item.{Item}
 use Rattle.cbt_model.specs.declared.events.Item.TheVariants as item
@@ -21,30 +27,9 @@ use Rattle.cbt_script.specs.Fields.{number_in}
 use Rattle.cbt_script.specs.Printed.{name_of, item_text, items_text}
 use Rattle.cbt_script.specs.Rules.{IsActorName, IsActor, IsItem}
 use Rattle.cbt_script.specs.Settings.{max_ms}
-use Rattle.cbt_script.proofs.LinesBack.{skip_led}
-use Rattle.cbt_script.proofs.NamesBack.{name_bytes, name_word}
-use Rattle.cbt_script.proofs.WordsBack.{IsWord, IsTail, all_weaker, all_behind, no_space, word_next, led_word, bytes_other, decimal_digits, decimal_word, number_in-decimal}
+use Rattle.cbt_script.proofs.FieldsBack.{bytes_other, number_in-decimal}
 
 -- ---- words in two parts
-
--- no byte is this one
-abbrev Lacking : ℕ → List ℕ → Type 0
-Lacking b text = AllByRecursion (λ x. x ≡ b → ⊥) text
-
-abbrev is_byte : ℕ → ℕ → Bool
-is_byte b x = eqb x b
-
-place_of : (b : ℕ) (word rest : List ℕ) → Lacking b word → position_or_len (is_byte b) (word ++ b ∷ rest) ≡ length word
-place_of b [] rest none = ap (λ t. cond (not t) (1 + position_or_len (is_byte b) rest) 0) (eq-eqb b b refl)
-place_of b (x ∷ word) rest none =
-    let e : 1 + length word ≡ suc (length word) = omega arith in
-    ap (λ t. cond (not t) (1 + position_or_len (is_byte b) (word ++ b ∷ rest)) 0) (ne_eqb x b none.0) ∙ ap (λ n. 1 + n) (place_of b word rest none.1) ∙ e
-
-past_all : (b : ℕ) (word : List ℕ) → Lacking b word → position_or_len (is_byte b) word ≡ length word
-past_all b [] none = refl
-past_all b (x ∷ word) none =
-    let e : 1 + length word ≡ suc (length word) = omega arith in
-    ap (λ t. cond (not t) (1 + position_or_len (is_byte b) word) 0) (ne_eqb x b none.0) ∙ ap (λ n. 1 + n) (past_all b word none.1) ∙ e
 
 abbrev Parts : Type 0
 Parts = Option (List ℕ × List ℕ)
@@ -55,17 +40,15 @@ parted_at t n text = cond t (Some (take n text, drop (n + 1) text)) None
 parted_some : (b : ℕ) (word rest : List ℕ) → Lacking b word → parted_by b (word ++ b ∷ rest) ≡ Some (word, rest)
 parted_some b word rest none =
     let text = word ++ b ∷ rest in
-    let n = position_or_len (is_byte b) text in
-    let at : n ≡ length word = place_of b word rest none in
-    let long : length (word ++ b ∷ []) ≡ n + 1 = omega (arith, length-append word (b ∷ [])) in
-    let more : drop (n + 1) text ≡ rest = ap (drop (n + 1)) (sym (append_assoc word (b ∷ []) rest)) ∙ drop_at (word ++ b ∷ []) rest (n + 1) long in
+    let n = position_or_len (is_end b) text in
+    let at : n ≡ length word = place_behind b word rest none in
     ap (λ t. parted_at t n text) (lt-ltb n (length text) (omega (arith, length-append word (b ∷ rest))))
-    ∙ ap (λ w. Some (w, drop (n + 1) text)) (take_at word (b ∷ rest) n (sym at)) ∙ ap (λ r. Some (word, r)) more
+    ∙ ap (λ w. Some (w, drop (n + 1) text)) (take_at word (b ∷ rest) n (sym at)) ∙ ap (λ r. Some (word, r)) (drop_past word b rest n at)
 
 parted_none : (b : ℕ) (word : List ℕ) → Lacking b word → parted_by b word ≡ None
 parted_none b word none =
-    let n = position_or_len (is_byte b) word in
-    let at : n ≡ length word = past_all b word none in
+    let n = position_or_len (is_end b) word in
+    let at : n ≡ length word = place_past b word none in
     ap (λ t. parted_at t n word) (le-ltb n (length word) (omega arith))
 
 name_no_plus : (b : ℕ) → is_name_byte b ≡ true → b ≡ 43 → ⊥
@@ -93,9 +76,9 @@ module _ (s : Script) (actors : Actors) (names : (n : ℕ) → IsActor s n → I
   calls_back n c is least high =
       let name = name_of s n in
       let fits : c < 2 ^ 64 = omega arith in
-      let bytes = name_bytes name (names n is).0 in
+      let bytes = all_pass is_name_byte name (name_bytes name (names n is).0) in
       let word = name ++ 42 ∷ decimal c in
-      let no_plus : Lacking 43 word = all_behind (λ x. x ≡ 43 → ⊥) name (42 ∷ decimal c) (all_weaker name_no_plus name bytes) ((λ same. omega arith), all_weaker digit_no_plus (decimal c) (decimal_digits c fits)) in
+      let no_plus : Lacking 43 word = all_behind (λ (x : ℕ). x ≡ 43 → ⊥) name (42 ∷ decimal c) (all_weaker name_no_plus name bytes) ((λ same. omega arith), all_weaker digit_no_plus (decimal c) (decimal_digits c fits)) in
       let some : 0 < length (decimal c) = (decimal_word c fits).some in
       ap (λ o. led_by_plus o (calls_of actors word)) (parted_none 43 word no_plus)
       ∙ ap (counted_calls actors word) (parted_some 42 name (decimal c) (all_weaker name_no_star name bytes))
@@ -107,9 +90,9 @@ module _ (s : Script) (actors : Actors) (names : (n : ℕ) → IsActor s n → I
   unfolding all_calls_of
   all_back n is =
       let name = name_of s n in
-      let bytes = name_bytes name (names n is).0 in
+      let bytes = all_pass is_name_byte name (name_bytes name (names n is).0) in
       let word = name ++ 42 ∷ [] in
-      let no_plus : Lacking 43 word = all_behind (λ x. x ≡ 43 → ⊥) name (42 ∷ []) (all_weaker name_no_plus name bytes) ((λ same. omega arith), tt) in
+      let no_plus : Lacking 43 word = all_behind (λ (x : ℕ). x ≡ 43 → ⊥) name (42 ∷ []) (all_weaker name_no_plus name bytes) ((λ same. omega arith), tt) in
       ap (λ o. led_by_plus o (calls_of actors word)) (parted_none 43 word no_plus)
       ∙ ap (counted_calls actors word) (parted_some 42 name [] (all_weaker name_no_star name bytes))
       ∙ ap (λ r. r >>= (λ a. Ok (item.All a))) (named_back n is)

@@ -5,6 +5,8 @@ use Rattle.std.proofs.lemmas.Bool.{lt-ltb}
 use Rattle.std.proofs.lemmas.List.Elements.{All-head, All-tail}
 use Rattle.cbt_base.specs.Keyed.{at_key}
 use Rattle.cbt_expr.specs.declared.plans.TxnPlan.{TxnPlan}
+use Rattle.cbt_lex.proofs.NamesBack.{name_word}
+use Rattle.cbt_lex.proofs.WordsBack.{word_literal, led_last}
 use Rattle.cbt_model.specs.Keys.{doc_cmp}
 use Rattle.cbt_script.specs.declared.cause.Cause.TheVariants.{Twice, Limit}
 use Rattle.cbt_script.specs.declared.clients.Terms.{Terms}
@@ -26,13 +28,13 @@ use Rattle.cbt_script.specs.Printed as printed
 use Rattle.cbt_script.specs.Reading.{taken}
 use Rattle.cbt_script.specs.Rules.{IsActorName, IsPlan, IsClient, AreDistinct, tried_in, tried_by}
 use Rattle.cbt_script.specs.Settings.{max_time}
-use Rattle.cbt_script.proofs.ActorsBack.{actors_after, NoneNamed, none_named_more, longer}
+use Rattle.cbt_script.proofs.ActorsBack.{actors_after, NoneNamed, none_named_more}
+use Rattle.cbt_script.proofs.KeysBack.{longer}
 use Rattle.cbt_script.proofs.DocumentsBack.{entered}
 use Rattle.cbt_script.proofs.Drafted.{drafted, drafted_on, drafted_both}
-use Rattle.cbt_script.proofs.KeywordsBack.{keyword_taken, line_taken, led_last, word_literal}
-use Rattle.cbt_script.proofs.NamesBack.{name_word}
+use Rattle.cbt_script.proofs.KeywordsBack.{keyword_taken, line_taken}
 use Rattle.cbt_script.proofs.OperationsBack.{Client, inner, bound_after, ops_back}
-use Rattle.cbt_script.proofs.WordsBack.{bytes_other, option_field-next, actor_field-next}
+use Rattle.cbt_script.proofs.FieldsBack.{actor_field-next, bytes_other, option_field-next}
 
 -- ---- terms
 

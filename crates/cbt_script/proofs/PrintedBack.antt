@@ -2,7 +2,7 @@
 use Rattle.std.proofs.Common.{◌≡◌, ℕ, ◌^◌, ◌<◌, ◌≤◌, Bool, true, false, cond, ltb, List, [], ◌∷◌, ◌++◌, Option, Some, None, decimal, codes, ◌≢◌, refl, arith, append-nil}
 use Rattle.std.specs.List.{All, AllByRecursion, list_all}
 use Rattle.std.proofs.lemmas.Bool.{ltb-true}
-use Rattle.std.proofs.lemmas.List.Elements.{All-head, All-tail}
+use Rattle.std.proofs.lemmas.List.Elements.{recursion_from_All, All-head, All-tail}
 use Rattle.cbt_base.specs.Ids.{IsDocId}
 use Rattle.cbt_expr.specs.declared.plans.Op.{Op}
 use Rattle.cbt_expr.specs.declared.plans.Op.TheVariants as op
@@ -10,6 +10,11 @@ use Rattle.cbt_expr.specs.declared.plans.TxnPlan.{TxnPlan}
 use Rattle.cbt_json.specs.declared.tree.Tree.{Tree}
 use Rattle.cbt_json.specs.Rules.{IsJson}
 use Rattle.cbt_json.specs.Trees.{text_of}
+use Rattle.cbt_lex.proofs.ByRecursion.{all_weaker, all_behind, all_pass}
+use Rattle.cbt_lex.proofs.DecimalsBack.{decimal_word}
+use Rattle.cbt_lex.proofs.LinesBack.{Closes, closes_behind, closes_same, NoFeed, IsPrinted}
+use Rattle.cbt_lex.proofs.NamesBack.{name_word}
+use Rattle.cbt_lex.proofs.WordsBack.{IsWord, closes_word, one_line_word}
 use Rattle.cbt_model.specs.declared.events.Fate.{Fate}
 use Rattle.cbt_model.specs.declared.events.Fate.TheVariants.{Plain, Lost, Late}
 use Rattle.cbt_model.specs.declared.events.Item.{Item}
@@ -22,36 +27,30 @@ use Rattle.cbt_script.specs.Settings.{max_time, max_ms}
 use Rattle.cbt_syntax.specs.Bound.{is_bound_in}
 use Rattle.cbt_syntax.specs.Texts.{expr_text, cond_text}
 use Rattle.cbt_script.proofs.ExprsBack.{expr_edged, cond_edged}
-use Rattle.cbt_script.proofs.LinesBack.{Closes, closes_behind, closes_same, OneLine, IsPrinted}
-use Rattle.cbt_script.proofs.NamesBack.{id_word, name_word, all_pass}
 use Rattle.cbt_script.proofs.OperationsBack.{Client}
 use Rattle.cbt_script.proofs.OrderBack.{item_word}
 use Rattle.cbt_script.proofs.RunBack.{names_fine, numbers_fine, the_actors}
-use Rattle.cbt_script.proofs.TextsBack.{closes_word, one_line_word, json_edged, json_one_line}
-use Rattle.cbt_script.proofs.WordsBack.{IsWord, all_weaker, all_behind, decimal_word}
+use Rattle.cbt_script.proofs.TextsBack.{json_edged, json_one_line}
+use Rattle.cbt_script.proofs.IdsBack.{id_word}
 
 -- ---- texts with no line feed
 
-joined_line : (a b : List ℕ) → OneLine a → OneLine b → OneLine (a ++ b)
-joined_line a b one two = all_behind (λ x. x ≡ 10 → ⊥) a b one two
+joined_line : (a b : List ℕ) → NoFeed a → NoFeed b → NoFeed (a ++ b)
+joined_line a b one two = all_behind (λ (x : ℕ). x ≡ 10 → ⊥) a b one two
 
-literal_line : (text : List ℕ) → list_all (ltb 10) text ≡ true → OneLine text
+literal_line : (text : List ℕ) → list_all (ltb 10) text ≡ true → NoFeed text
 literal_line text is = all_weaker (λ b above same. (let up : 10 < b = ltb-true 10 b above in omega arith)) text (all_pass (ltb 10) text is)
 
-decimal_line : (n : ℕ) → n < 2 ^ 64 → OneLine (decimal n)
+decimal_line : (n : ℕ) → n < 2 ^ 64 → NoFeed (decimal n)
 decimal_line n below = one_line_word (decimal n) (decimal_word n below)
 
 decimal_closes : (n : ℕ) → n < 2 ^ 64 → Closes (decimal n)
 decimal_closes n below = closes_word (decimal n) (decimal_word n below)
 
-one_line_of : (text : List ℕ) → All (λ b. b ≢ 10) text → OneLine text
-one_line_of [] all = tt
-one_line_of (b ∷ bs) all = (All-head (λ b. b ≢ 10) b bs all, one_line_of bs (All-tail (λ b. b ≢ 10) b bs all))
-
 -- ---- lines
 
 -- a literal that does not begin with a space, and a text behind it
-line_of : (b : ℕ) (bs rest : List ℕ) → ltb 32 b ≡ true → list_all (ltb 10) (b ∷ bs) ≡ true → Closes rest → OneLine rest → IsPrinted (b ∷ bs ++ rest)
+line_of : (b : ℕ) (bs rest : List ℕ) → ltb 32 b ≡ true → list_all (ltb 10) (b ∷ bs) ≡ true → Closes rest → NoFeed rest → IsPrinted (b ∷ bs ++ rest)
 line_of b bs rest above literal closes one = (
   (λ same. (let up : 32 < b = ltb-true 32 b above in omega arith)),
   closes_behind (b ∷ bs) rest closes,
@@ -61,12 +60,8 @@ line_of b bs rest above literal closes one = (
 abbrev Printed : List (List ℕ) → Type 0
 Printed lines = AllByRecursion IsPrinted lines
 
-pub printed_append : (a b : List (List ℕ)) → Printed a → Printed b → Printed (a ++ b)
-printed_append [] b one two = two
-printed_append (line ∷ a) b one two = (one.0, printed_append a b one.1 two)
-
 -- two texts and what parts them
-three : (a mid c : List ℕ) → OneLine a → list_all (ltb 10) mid ≡ true → OneLine c → OneLine (a ++ mid ++ c)
+three : (a mid c : List ℕ) → NoFeed a → list_all (ltb 10) mid ≡ true → NoFeed c → NoFeed (a ++ mid ++ c)
 three a mid c one literal two = joined_line (a ++ mid) c (joined_line a mid one (literal_line mid literal)) two
 
 -- ---- settings
@@ -106,7 +101,7 @@ settings_printed s is =
 -- ---- documents
 
 -- an identifier and a text behind it
-id_and : (id text : List ℕ) → IsDocId id → OneLine text → OneLine (id ++ codes " " ++ text)
+id_and : (id text : List ℕ) → IsDocId id → NoFeed text → NoFeed (id ++ codes " " ++ text)
 id_and id text fit one = three id (codes " ") text (one_line_word id (id_word id fit)) refl one
 
 attrs_printed_if : (e : Bool) (id : List ℕ) (t : Tree) → IsDocId id → IsJson t → Printed (cond e [] (doc_line (codes "attrs ") id t ∷ []))
@@ -120,7 +115,7 @@ docs_printed (doc ∷ docs) all =
     let is = All-head IsDocument doc docs all in (
       line_of 100 (codes "oc ") (doc.0 ++ codes " " ++ text_of doc.1) refl refl (closes_behind (doc.0 ++ codes " ") (text_of doc.1) (json_edged doc.1 is.1.0).closes)
           (id_and doc.0 (text_of doc.1) is.0 (json_one_line doc.1 is.1.0)),
-      printed_append (attrs_lines doc.0 doc.2) (doc_lines docs) (attrs_printed_if (is_empty_object doc.2) doc.0 doc.2 is.0 is.2.0) (docs_printed docs (All-tail IsDocument doc docs all)),
+      all_behind IsPrinted (attrs_lines doc.0 doc.2) (doc_lines docs) (attrs_printed_if (is_empty_object doc.2) doc.0 doc.2 is.0 is.2.0) (docs_printed docs (All-tail IsDocument doc docs all)),
     )
 
 -- ---- clients
@@ -132,12 +127,12 @@ op_printed bound (op.Get id name) is =
     (three id (codes " as ") name (one_line_word id (id_word id is.0)) refl (one_line_word name word))
 op_printed bound (op.Insert id value) is =
     line_of 105 (codes "nsert ") (id ++ codes " " ++ expr_text value) refl refl (closes_behind (id ++ codes " ") (expr_text value) (expr_edged (is_bound_in bound) value is.1).closes)
-    (id_and id (expr_text value) is.0 (one_line_of (expr_text value) is.2))
+    (id_and id (expr_text value) is.0 (recursion_from_All (λ b. b ≢ 10) (expr_text value) is.2))
 op_printed bound (op.Replace id value) is =
     line_of 114 (codes "eplace ") (id ++ codes " " ++ expr_text value) refl refl (closes_behind (id ++ codes " ") (expr_text value) (expr_edged (is_bound_in bound) value is.1).closes)
-    (id_and id (expr_text value) is.0 (one_line_of (expr_text value) is.2))
+    (id_and id (expr_text value) is.0 (recursion_from_All (λ b. b ≢ 10) (expr_text value) is.2))
 op_printed bound (op.Remove id) is = let word = id_word id is in line_of 114 (codes "emove ") id refl refl (closes_word id word) (one_line_word id word)
-op_printed bound (op.Need c) is = line_of 110 (codes "eed ") (cond_text c) refl refl (cond_edged (is_bound_in bound) c is.0).closes (one_line_of (cond_text c) is.1)
+op_printed bound (op.Need c) is = line_of 110 (codes "eed ") (cond_text c) refl refl (cond_edged (is_bound_in bound) c is.0).closes (recursion_from_All (λ b. b ≢ 10) (cond_text c) is.1)
 
 ops_printed : (bound : Bound) (ops : List Op) → AreOperations bound ops → Printed (op_lines ops)
 ops_printed bound [] are = tt
@@ -166,7 +161,7 @@ txns_printed : (plans : List TxnPlan) → All IsPlan plans → Printed (txn_line
 txns_printed [] all = tt
 txns_printed (plan ∷ plans) all =
     let is = All-head IsPlan plan plans all in
-    printed_append (plan_lines plan) (txn_lines plans) (begin_printed plan is, printed_append (op_lines plan.ops) (end_line plan.keep ∷ []) (ops_printed [] plan.ops is.ops) (end_printed plan.keep, tt))
+    all_behind IsPrinted (plan_lines plan) (txn_lines plans) (begin_printed plan is, all_behind IsPrinted (op_lines plan.ops) (end_line plan.keep ∷ []) (ops_printed [] plan.ops is.ops) (end_printed plan.keep, tt))
     (txns_printed plans (All-tail IsPlan plan plans all))
 
 clients_printed : (clients : List Client) → All IsClient clients → Printed (client_lines clients)
@@ -175,13 +170,13 @@ clients_printed (client ∷ clients) all =
     let is = All-head IsClient client clients all in
     let word = name_word client.0 is.0.0 in (
       line_of 99 (codes "lient ") client.0 refl refl (closes_word client.0 word) (one_line_word client.0 word),
-      printed_append (txn_lines client.1.txns) (client_lines clients) (txns_printed client.1.txns is.1) (clients_printed clients (All-tail IsClient client clients all)),
+      all_behind IsPrinted (txn_lines client.1.txns) (client_lines clients) (txns_printed client.1.txns is.1) (clients_printed clients (All-tail IsClient client clients all)),
     )
 
 -- ---- how the run goes
 
 -- a name and a number behind it
-name_and : (name : List ℕ) (n : ℕ) → IsActorName name → n < 2 ^ 64 → OneLine (name ++ codes " " ++ decimal n)
+name_and : (name : List ℕ) (n : ℕ) → IsActorName name → n < 2 ^ 64 → NoFeed (name ++ codes " " ++ decimal n)
 name_and name n named below = three name (codes " ") (decimal n) (one_line_word name (name_word name named.0)) refl (decimal_line n below)
 
 cleaners_printed : (cleaners : List (List ℕ × ℕ)) → All IsCleaner cleaners → Printed (cleaner_lines cleaners)
@@ -222,7 +217,7 @@ module _ (s : Script) (fine : IsScript s) where
   the_word : (i : Item) → IsItem s i → IsWord (item_text s i)
   the_word i is = item_word s (the_actors s fine) (names_fine s fine) (numbers_fine s fine) i is
 
-  items_line : (items : List Item) → All (IsItem s) items → OneLine (items_text s items)
+  items_line : (items : List Item) → All (IsItem s) items → NoFeed (items_text s items)
   items_line [] all = tt
   items_line (i ∷ items) all =
       ((λ same. omega arith), joined_line (item_text s i) (items_text s items) (one_line_word (item_text s i) (the_word i (All-head (IsItem s) i items all))) (items_line items (All-tail (IsItem s) i items all)))
@@ -254,13 +249,13 @@ module _ (s : Script) (fine : IsScript s) where
       let f = fault_lines Lost s s.faults.fates in
       let g = fault_lines Late s s.faults.fates in
       let h = order_lines s s.order in
-      printed_append (a ++ b ++ c ++ d ++ e ++ f ++ g ++ h) (sweep_lines s.sweep)
-      (printed_append (a ++ b ++ c ++ d ++ e ++ f ++ g) h
-      (printed_append (a ++ b ++ c ++ d ++ e ++ f) g
-      (printed_append (a ++ b ++ c ++ d ++ e) f
-      (printed_append (a ++ b ++ c ++ d) e
-      (printed_append (a ++ b ++ c) d
-      (printed_append (a ++ b) c
-      (printed_append a b (settings_printed s fine) (docs_printed s.docs fine.docs)) (clients_printed s.clients fine.clients)) (cleaners_printed s.cleaners fine.cleaners))
+      all_behind IsPrinted (a ++ b ++ c ++ d ++ e ++ f ++ g ++ h) (sweep_lines s.sweep)
+      (all_behind IsPrinted (a ++ b ++ c ++ d ++ e ++ f ++ g) h
+      (all_behind IsPrinted (a ++ b ++ c ++ d ++ e ++ f) g
+      (all_behind IsPrinted (a ++ b ++ c ++ d ++ e) f
+      (all_behind IsPrinted (a ++ b ++ c ++ d) e
+      (all_behind IsPrinted (a ++ b ++ c) d
+      (all_behind IsPrinted (a ++ b) c
+      (all_behind IsPrinted a b (settings_printed s fine) (docs_printed s.docs fine.docs)) (clients_printed s.clients fine.clients)) (cleaners_printed s.cleaners fine.cleaners))
       (stops_printed s.stops fine.stops)) (fates_printed Lost s.faults.fates fine.faults)) (fates_printed Late s.faults.fates fine.faults)) (order_printed s.order fine.order))
       (sweep_printed s.sweep fine.sweep)

@@ -2,6 +2,7 @@
 use Rattle.std.proofs.Common.{◌≡◌, ℕ, ◌+◌, ◌*◌, ◌≤◌, false, List, [], ◌∷◌, ◌++◌, length, map, Option, None, Ok, IsUtf8, refl, sym, ap, ap₂, ◌∙◌, subst, arith, append_assoc}
 use Rattle.std.specs.List.{AllByRecursion}
 use Rattle.cbt_expr.specs.declared.plans.TxnPlan.{TxnPlan}
+use Rattle.cbt_lex.proofs.LinesBack.{trimmed_is, IsPrinted, lines_of-lined, lines_utf8}
 use Rattle.cbt_model.specs.declared.events.Fate.TheVariants.{Lost, Late}
 use Rattle.cbt_model.specs.declared.events.Faults.{Faults}
 use Rattle.cbt_model.specs.declared.events.Item.{Item}
@@ -23,7 +24,6 @@ use Rattle.cbt_script.proofs.CourseBack.{Reaches, reach_more, run, cleaners_back
 use Rattle.cbt_script.proofs.DocumentsBack.{DocsRead, with_documents, docs_back, none_at_start}
 use Rattle.cbt_script.proofs.Drafted.{drafted, drafted_both, IsReady, read_drafted}
 use Rattle.cbt_script.proofs.FaultsBack.{faults_back}
-use Rattle.cbt_script.proofs.LinesBack.{IsPrinted, trimmed_is, lines_of-lined, lines_utf8}
 use Rattle.cbt_script.proofs.OperationsBack.{Client}
 use Rattle.cbt_script.proofs.PlansBack.{ClientsRead, outer, clients_back}
 use Rattle.cbt_script.proofs.PrintedBack.{lines_printed}

@@ -2,12 +2,13 @@
 use Rattle.std.proofs.Common.{◌≡◌, ℕ, ◌+◌, ◌*◌, ◌<◌, ◌≤◌, Bool, true, false, ◌||◌, nat_lt, nat_le, is_some, List, [], ◌∷◌, ◌++◌, length, map, codes, Option, Some, None, Err, refl, sym, ap, ◌∙◌, subst, arith, add-one, length-append, append-nil}
 use Rattle.std.specs.List.{All}
 use Rattle.std.proofs.Math.Nat.{suc-mul}
-use Rattle.std.proofs.lemmas.Bool.{ltb-true, ltb-false, leb-false}
+use Rattle.std.proofs.lemmas.Bool.{ltb-true, ltb-false, leb-false, or_parts}
 use Rattle.std.proofs.lemmas.List.{map-append}
 use Rattle.std.proofs.lemmas.List.Elements.{All-nil, All-push}
 use Rattle.cbt_expr.specs.declared.plans.ClientPlan.{ClientPlan}
 use Rattle.cbt_expr.specs.declared.plans.Op.{Op}
 use Rattle.cbt_expr.specs.declared.plans.TxnPlan.{TxnPlan}
+use Rattle.cbt_lex.specs.Lines.{IsOneLine}
 use Rattle.cbt_script.specs.declared.cause.Cause.TheVariants.{Word, Limit}
 use Rattle.cbt_script.specs.declared.clients.Clients.{Clients}
 use Rattle.cbt_script.specs.declared.clients.Terms.{Terms}
@@ -15,7 +16,7 @@ use Rattle.cbt_script.specs.declared.keywords.Operation.{Operation}
 use Rattle.cbt_script.specs.Clients.{no_clients, is_inside, last_done, with_client, terms_field, begin_txn, terms_in, open_terms, bound_by, with_operation, add_operation, plan_of, end_txn}
 use Rattle.cbt_script.specs.Fields.{option_field}
 use Rattle.cbt_script.specs.Operations.{op_field}
-use Rattle.cbt_script.specs.Rules.{IsWithin, IsOneLine, IsActorName, IsOperation, AreOperations, IsPlan, IsClient, tried_in, tried_by}
+use Rattle.cbt_script.specs.Rules.{IsWithin, IsActorName, IsOperation, AreOperations, IsPlan, IsClient, tried_in, tried_by}
 use Rattle.cbt_script.specs.Settings.{max_time}
 use Rattle.cbt_script.proofs.RulesOfFields.{Keeps, keeps-bind, keeps-cond, keeps-required, keeps-ended, option-kept}
 use Rattle.cbt_script.proofs.RulesOfOperations.{bound_behind, bound-push, operations-push, op-kept}
@@ -165,10 +166,6 @@ this-under : (o : Option Terms) (c : Clients) → UnderWay o c → Keeps (IsThis
 this-under None c is = tt
 this-under (Some terms) c is = (is, refl)
 
-neither : (a b : Bool) → (a || b) ≡ false → (a ≡ false) × (b ≡ false)
-neither true b e = absurd (cc)
-neither false b e = (refl, e)
-
 one-more : (a b c n tries : ℕ) → a ≡ b + c + n * tries → a + tries ≡ b + c + (n + 1) * tries
 one-more a b c n tries is = let e : (n + 1) * tries ≡ n * tries + tries = ap (λ m. m * tries) (add-one n) ∙ suc-mul n tries in omega arith
 
@@ -176,7 +173,7 @@ operation-pushed : (terms : Terms) (o : Op) (c : Clients) → AreClients c → I
 operation-pushed terms o c are this is =
     keeps-cond AreClients (nat_le 256 (length c.ops) || nat_lt 16384 (c.tried + terms.tries)) (Err Limit) _ (λ full. tt)
     (λ room.
-    let two = neither (nat_le 256 (length c.ops)) (nat_lt 16384 (c.tried + terms.tries)) room in
+    let two = or_parts (nat_le 256 (length c.ops)) (nat_lt 16384 (c.tried + terms.tries)) room in
     let some : length c.ops < 256 = leb-false 256 (length c.ops) two.0 in
     let under = this.0 in
     let longer : length (c.ops ++ o ∷ []) ≡ length c.ops + 1 = omega (arith, length-append c.ops (o ∷ [])) in

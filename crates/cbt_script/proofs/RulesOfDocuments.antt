@@ -1,7 +1,7 @@
 -- The documents of a draft keep their rules.
 use Rattle.std.proofs.Common.{◌≡◌, ℕ, ◌<◌, ◌≤◌, true, not, nat_lt, nat_le, ◌&&◌, List, [], ◌∷◌, ◌++◌, length, map, is_some, Result, Ok, Err, bytes_eq, refl, sym, ap, subst, arith, rules, length-append}
 use Rattle.std.specs.List.{All}
-use Rattle.std.proofs.lemmas.Bool.{ltb-true}
+use Rattle.std.proofs.lemmas.Bool.{ltb-true, not-true}
 use Rattle.std.proofs.lemmas.List.{map-append}
 use Rattle.std.proofs.lemmas.List.Elements.{All-nil, All-cons, All-head, All-tail, All-push}
 use Rattle.cbt_base.specs.Ids.{IsDocId}
@@ -21,7 +21,7 @@ use Rattle.cbt_script.specs.declared.documents.Documents.{Documents}
 use Rattle.cbt_script.specs.Documents.{no_documents, in_front, are_attributes, attributed, add_doc, add_attrs}
 use Rattle.cbt_script.specs.Fields.{id_field, body_field}
 use Rattle.cbt_script.specs.Rules.{IsBody, IsDocument, AreDistinct}
-use Rattle.cbt_script.proofs.RulesOfFields.{Keeps, Field, keeps-bind, keeps-cond, keeps-required, not-false, id-kept, body-kept}
+use Rattle.cbt_script.proofs.RulesOfFields.{Keeps, Field, keeps-bind, keeps-cond, keeps-required, id-kept, body-kept}
 use Rattle.cbt_script.proofs.RulesOfNames.{AreKeys, keys-push, keys-apart, distinct-push}
 
 abbrev Doc : Type 0
@@ -103,7 +103,7 @@ doc-kept d rest are =
     (λ body good. keeps-required AreDocuments (nat_lt (length d.docs) 65536) Limit _
     (λ room.
     let few : length d.docs < 65536 = ltb-true (length d.docs) 65536 room in
-    let absent = not-false (is_some (at_key doc_cmp d.ids id.0)) new in
+    let absent = not-true (is_some (at_key doc_cmp d.ids id.0)) new in
     let names : ids_of (d.docs ++ (id.0, body, none) ∷ []) ≡ ids_of d.docs ++ id.0 ∷ [] = map-append (λ (x : Doc). x.0) d.docs ((id.0, body, none) ∷ []) in
     record {
       docs = All-push IsDocument d.docs (id.0, body, none) are.docs (named.0, good, none-body, none-attributes);

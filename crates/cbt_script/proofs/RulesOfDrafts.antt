@@ -5,7 +5,7 @@ use Rattle.std.specs.Option.{unwrap_or}
 use Rattle.std.specs.Ordering.{nat_cmp}
 use Rattle.std.proofs.lemmas.Bool.{ltb-true, ltb-false}
 use Rattle.cbt_base.specs.Keyed.{at_key}
-use Rattle.cbt_lex.specs.Lines.{skip_spaces}
+use Rattle.cbt_lex.specs.Lines.{skip_spaces, IsOneLine}
 use Rattle.cbt_lex.specs.Words.{words_of}
 use Rattle.cbt_model.specs.Faults.{call_cmp}
 use Rattle.cbt_model.specs.Keys.{doc_cmp}
@@ -29,7 +29,7 @@ use Rattle.cbt_script.specs.Documents.{add_doc, add_attrs}
 use Rattle.cbt_script.specs.Drafts.{start, group_number, enter, atrs_of, expiry_of, tries_of, setting_line, doc_line, attrs_line, client_line, begin_line, operation_line, end_line, cleaner_line, stop_line, fault_line, order_line, sweep_line, stands_inside, take_line, take_keyword}
 use Rattle.cbt_script.specs.Fields.{actor_field, number_field}
 use Rattle.cbt_script.specs.Operations.{op_field}
-use Rattle.cbt_script.specs.Rules.{IsWithin, IsOneLine, IsActorName}
+use Rattle.cbt_script.specs.Rules.{IsWithin, IsActorName}
 use Rattle.cbt_script.specs.Settings.{max_time, max_ms, set_setting}
 use Rattle.cbt_script.proofs.RulesOfFields.{Keeps, Field, keeps-any, keeps-bind, keeps-cond, keeps-required, keeps-ended, actor-kept}
 use Rattle.cbt_script.proofs.RulesOfNames.{AreActors, no-actors, actors-push}

@@ -1,6 +1,6 @@
 -- What the fields of a line give keeps the rules of its kind, and what is left behind a field has no line feed where the line has none.
-use Rattle.std.proofs.Common.{◌≡◌, ◌≢◌, ℕ, ◌==◌, Bool, true, false, cond, not, ◌&&◌, nat_le, IsTrue, List, length, codes, is_none, Option, Some, None, Result, Ok, Err, bytes_eq, refl, subst}
-use Rattle.std.proofs.lemmas.Bool.{and_parts, leb-true}
+use Rattle.std.proofs.Common.{◌≡◌, ◌≢◌, ℕ, ◌==◌, Bool, true, false, cond, not, ◌&&◌, nat_le, IsTrue, List, length, codes, is_none, Option, Some, None, Result, Ok, Err, bytes_eq, refl}
+use Rattle.std.proofs.lemmas.Bool.{and_parts, leb-true, not-true}
 use Rattle.std.proofs.lemmas.Slice.Eq.{bytes_eq-Decides}
 use Rattle.cbt_base.specs.Ids.{IsDocId, id_fault}
 use Rattle.cbt_json.specs.declared.fault.JsonFault.{JsonFault}
@@ -13,11 +13,12 @@ use Rattle.cbt_lex.specs.Decimals.{number_of}
 use Rattle.cbt_lex.specs.Names.{is_name}
 use Rattle.cbt_lex.specs.Words.{word_and_rest}
 use Rattle.cbt_lex.proofs.OneLine.{rest-one_line}
+use Rattle.cbt_lex.specs.Lines.{IsOneLine}
 use Rattle.cbt_script.specs.declared.cause.Cause.{Cause}
 use Rattle.cbt_script.specs.declared.cause.Cause.TheVariants.{Form, Name, Id, Number, Big}
 use Rattle.cbt_script.specs.Causes.{◌>>=◌, require}
 use Rattle.cbt_script.specs.Fields.{word_field, name_field, actor_field, within, number_in, number_field, option_field, fixed_field, end_field, id_field, fits_body, fit_body, body_field}
-use Rattle.cbt_script.specs.Rules.{IsWithin, IsOneLine, IsActorName, IsBody}
+use Rattle.cbt_script.specs.Rules.{IsWithin, IsActorName, IsBody}
 
 -- ---- what holds of all that a reading gives
 
@@ -37,9 +38,6 @@ pub keeps-cond : {A : Type 0} (P : A → Type 0) (c : Bool) (r s : Result A Caus
 keeps-cond P true r s first second = first refl
 keeps-cond P false r s first second = second refl
 
-pub keeps-ok : {A : Type 0} (P : A → Type 0) (r : Result A Cause) (x : A) → r ≡ Ok x → Keeps P r → P x
-keeps-ok P r x e is = subst (Keeps P) e is
-
 pub keeps-require : (t : Bool) (why : Cause) → Keeps (λ u. t ≡ true) (require t why)
 keeps-require true why = refl
 keeps-require false why = tt
@@ -51,10 +49,6 @@ keeps-required Q t why r then = keeps-bind (λ u. t ≡ true) Q (require t why) 
 -- behind the end of a line
 pub keeps-ended : {B : Type 0} (Q : B → Type 0) (text : List ℕ) (r : Result B Cause) → Keeps Q r → Keeps Q (end_field text >>= (λ u. r))
 keeps-ended Q text r is = keeps-required Q (length text == 0) Form r (λ e. is)
-
-pub not-false : (t : Bool) → not t ≡ true → t ≡ false
-not-false true e = absurd (cc)
-not-false false e = refl
 
 -- ---- words and names
 
@@ -72,7 +66,7 @@ name-kept text =
     (λ w behind. keeps-required (Field (λ n. IsTrue (is_name n)) text) (is_name w.0) Name (Ok w) (λ is. (is, behind.1)))
 
 differs : (x y : List ℕ) → not (bytes_eq x y) ≡ true → x ≢ y
-differs x y e same = let is : bytes_eq x y ≡ true = (bytes_eq-Decides x y).1 same in let no = not-false (bytes_eq x y) e in cc
+differs x y e same = let is : bytes_eq x y ≡ true = (bytes_eq-Decides x y).1 same in let no = not-true (bytes_eq x y) e in cc
 
 pub actor-kept : (text : List ℕ) → Keeps (Field IsActorName text) (actor_field text)
 unfolding actor_field

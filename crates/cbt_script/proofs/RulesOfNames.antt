@@ -1,10 +1,11 @@
 -- Names that stand apart, and the maps in which they are looked up.
-use Rattle.std.proofs.Common.{◌≡◌, ◌≢◌, ℕ, ◌+◌, Bool, true, false, cond, not, List, [], ◌∷◌, ◌++◌, length, is_some, Option, Some, refl, ap, ◌∙◌, arith, length-append}
+use Rattle.std.proofs.Common.{◌≡◌, ◌≢◌, ℕ, suc, ◌+◌, Bool, true, false, cond, not, List, [], ◌∷◌, ◌++◌, length, is_some, Option, Some, None, refl, ap, ◌∙◌, arith, length-append}
 use Rattle.std.specs.declared.cmp.Ordering.{Ordering}
 use Rattle.std.specs.declared.cmp.Ordering.TheVariants.{Less, Equal, Greater}
 use Rattle.std.specs.Ordering.{is_eq, match_ordering}
 use Rattle.std.specs.List.{All}
 use Rattle.std.specs.BTreeMap.{insert_entry}
+use Rattle.std.proofs.lemmas.Bool.{not-true}
 use Rattle.std.proofs.lemmas.Cmp.{nat_list_cmp_total, tied_itself}
 use Rattle.std.proofs.lemmas.List.Elements.{All-nil, All-cons, All-head, All-tail, All-push, All-weaker}
 use Rattle.cbt_base.specs.Keyed.{at_key, with_pair}
@@ -12,7 +13,8 @@ use Rattle.cbt_base.proofs.Maps.{at_key-with_pair}
 use Rattle.cbt_model.specs.Keys.{doc_cmp}
 use Rattle.cbt_script.specs.Course.{Actors, with_actor, known, known_actor}
 use Rattle.cbt_script.specs.Rules.{IsWithin, AreDistinct}
-use Rattle.cbt_script.proofs.RulesOfFields.{Keeps, not-false}
+use Rattle.cbt_script.proofs.KeysBack.{longer}
+use Rattle.cbt_script.proofs.RulesOfFields.{Keeps}
 
 -- one more name, which is none of those before it
 pub distinct-push : (names : List (List ℕ)) (name : List ℕ) → AreDistinct names → All (λ x. x ≢ name) names → AreDistinct (names ++ name ∷ [])
@@ -47,18 +49,6 @@ module _ {V : Type 0} where
       All-weaker (λ x. is_some (at_key doc_cmp m x) ≡ true) (λ x. x ≢ name)
       (λ x known same. let e = ap (λ z. is_some (at_key doc_cmp m z)) same in cc) names are
 
-  length_by : (e : List ℕ × V) (es inserted : List (List ℕ × V)) (k : List ℕ) (v : V) (o : Ordering) → is_some (cond (is_eq o) (Some e.1) (at_key doc_cmp es k)) ≡ false
-      → (is_some (at_key doc_cmp es k) ≡ false → length inserted ≡ length es + 1)
-      → length (match_ordering o ((k, v) ∷ e ∷ es) ((e.0, v) ∷ es) (e ∷ inserted)) ≡ length (e ∷ es) + 1
-  length_by e es inserted k v Less none ih = omega arith
-  length_by e es inserted k v Equal none ih = absurd (cc)
-  length_by e es inserted k v Greater none ih = let l = ih none in omega arith
-
-  -- a key that was not there makes a map longer
-  pub one-longer : (m : List (List ℕ × V)) (k : List ℕ) (v : V) → is_some (at_key doc_cmp m k) ≡ false → length (with_pair doc_cmp m k v) ≡ length m + 1
-  one-longer [] k v none = omega arith
-  one-longer (e ∷ es) k v none = length_by e es (insert_entry doc_cmp es k v) k v (doc_cmp k e.0) none (one-longer es k v)
-
 module _ {K V : Type 0} (cmp : K → K → Ordering) (P : K → Type 0) (Q : V → Type 0) where
   abbrev Both : K × V → Type 0
   Both p = P p.0 × Q p.1
@@ -86,12 +76,16 @@ pub record AreActors (actors : Actors) (names : List (List ℕ)) : Type 0 where
 pub no-actors : AreActors [] []
 no-actors = record { keys = All-nil (λ name. is_some (at_key {V = ℕ} doc_cmp [] name) ≡ true); distinct = tt; count = refl; numbers = All-nil (λ (a : List ℕ × ℕ). Unit {0} × IsWithin 1 0 a.1) }
 
+none-there : {A : Type 0} (o : Option A) → is_some o ≡ false → o ≡ None
+none-there (Some x) e = absurd (cc)
+none-there None e = refl
+
 -- one actor more, whose name is new
 pub actors-push : (actors : Actors) (names : List (List ℕ)) (name : List ℕ) → AreActors actors names → not (is_some (at_key doc_cmp actors name)) ≡ true → AreActors (with_actor name actors) (names ++ name ∷ [])
 actors-push actors names name are new =
-    let none = not-false (is_some (at_key doc_cmp actors name)) new in
+    let none = not-true (is_some (at_key doc_cmp actors name)) new in
     let more : length (names ++ name ∷ []) ≡ length names + 1 = omega (arith, length-append names (name ∷ [])) in
-    let longer : length (with_actor name actors) ≡ length actors + 1 = one-longer actors name (length actors + 1) none in
+    let one_more : length (with_actor name actors) ≡ suc (length actors) = longer doc_cmp actors name (length actors + 1) (none-there (at_key doc_cmp actors name) none) in
     let c : length actors ≡ length names = are.count in
     record {
       keys = keys-push actors name (length actors + 1) names are.keys;

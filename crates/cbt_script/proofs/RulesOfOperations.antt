@@ -4,6 +4,7 @@ use Rattle.cbt_base.specs.Ids.{IsDocId}
 use Rattle.cbt_expr.specs.declared.expressions.Cond.{Cond}
 use Rattle.cbt_expr.specs.declared.expressions.Expr.{Expr}
 use Rattle.cbt_expr.specs.declared.plans.Op.{Op}
+use Rattle.cbt_lex.specs.Lines.{IsOneLine}
 use Rattle.cbt_lex.specs.Names.{is_name}
 use Rattle.cbt_script.specs.declared.cause.Cause.TheVariants as cause
 use Rattle.cbt_script.specs.declared.keywords.Operation.{Operation}
@@ -19,7 +20,7 @@ use Rattle.cbt_syntax.proofs.OneLine.{expr_of-one_line, cond_of-one_line}
 use Rattle.cbt_script.specs.Clients.{bound_by}
 use Rattle.cbt_script.specs.Fields.{id_field, fixed_field, name_field}
 use Rattle.cbt_script.specs.Operations.{Bound, told, expr_field, cond_field, get_field, insert_field, replace_field, remove_field, need_field, op_field}
-use Rattle.cbt_script.specs.Rules.{IsOneLine, IsOperation, AreOperations}
+use Rattle.cbt_script.specs.Rules.{IsOperation, AreOperations}
 use Rattle.cbt_script.proofs.RulesOfFields.{Keeps, Field, keeps-bind, keeps-cond, keeps-ended, name-kept, fixed-kept, id-kept}
 
 -- ---- expressions and conditions

@@ -5,7 +5,7 @@ use Rattle.std.specs.Str.{is_utf8}
 use Rattle.std.proofs.lemmas.List.{length-map}
 use Rattle.std.proofs.lemmas.List.Elements.{All-head, All-tail, All-weaker}
 use Rattle.cbt_expr.specs.declared.plans.ClientPlan.{ClientPlan}
-use Rattle.cbt_lex.specs.Lines.{trimmed, lines_of}
+use Rattle.cbt_lex.specs.Lines.{trimmed, lines_of, IsOneLine}
 use Rattle.cbt_lex.specs.Words.{word_and_rest}
 use Rattle.cbt_lex.proofs.OneLine.{trimmed-one_line, rest-one_line, lines-one_line}
 use Rattle.cbt_model.specs.declared.events.Item.{Item}
@@ -21,7 +21,7 @@ use Rattle.cbt_script.specs.Clients.{is_inside}
 use Rattle.cbt_script.specs.Drafts.{start, script_from}
 use Rattle.cbt_script.specs.Keywords.{keyword_of}
 use Rattle.cbt_script.specs.Reading.{text_field, is_passed_over, by_keyword, taken, line_step, at_line, read_on, read_lines, script_of}
-use Rattle.cbt_script.specs.Rules.{IsWithin, IsOneLine, IsStop, IsFault, IsItem, AreDistinct, IsScript, tried_by, tried_in, actor_names}
+use Rattle.cbt_script.specs.Rules.{IsWithin, IsStop, IsFault, IsItem, AreDistinct, IsScript, tried_by, tried_in, actor_names}
 use Rattle.cbt_script.specs.Settings.{max_time}
 use Rattle.cbt_script.proofs.RulesOfFields.{Keeps, keeps-bind, keeps-cond}
 use Rattle.cbt_script.proofs.RulesOfSettings.{or-default}

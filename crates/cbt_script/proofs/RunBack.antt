@@ -4,6 +4,8 @@ use Rattle.std.specs.List.{All}
 use Rattle.std.proofs.lemmas.List.Elements.{All-nil, All-cons, All-head, All-tail, All-append, All-map, All-weaker, All-get_or}
 use Rattle.cbt_base.specs.Keyed.{at_key}
 use Rattle.cbt_expr.specs.declared.plans.TxnPlan.{TxnPlan}
+use Rattle.cbt_lex.proofs.DecimalsBack.{decimal_word}
+use Rattle.cbt_lex.proofs.WordsBack.{led_word, led_last}
 use Rattle.cbt_model.specs.Keys.{doc_cmp}
 use Rattle.cbt_model.specs.declared.events.Item.{Item}
 use Rattle.cbt_script.specs.declared.course.Course.{Course}
@@ -25,10 +27,10 @@ use Rattle.cbt_script.specs.Settings.{max_ms}
 use Rattle.cbt_script.proofs.ActorsBack.{actors_after, actors_append, none_at_first, number_after}
 use Rattle.cbt_script.proofs.CourseBack.{Reaches, run}
 use Rattle.cbt_script.proofs.DocumentsBack.{entered}
-use Rattle.cbt_script.proofs.KeywordsBack.{line_taken, led_last, number_field-last}
+use Rattle.cbt_script.proofs.KeywordsBack.{line_taken}
 use Rattle.cbt_script.proofs.OperationsBack.{Client}
 use Rattle.cbt_script.proofs.OrderBack.{item_word, order_back}
-use Rattle.cbt_script.proofs.WordsBack.{led_word, decimal_word}
+use Rattle.cbt_script.proofs.FieldsBack.{number_field-last}
 
 -- ---- names
 

@@ -1,5 +1,8 @@
 -- The printed settings are read back.
 use Rattle.std.proofs.Common.{◌≡◌, ℕ, ◌^◌, ◌<◌, ◌≤◌, [], ◌∷◌, ◌++◌, Option, Some, None, Ok, decimal, codes, refl, ap, ◌∙◌, arith, append_assoc}
+use Rattle.cbt_lex.proofs.DecimalsBack.{decimal_word}
+use Rattle.cbt_lex.proofs.Spaces.{behind_space}
+use Rattle.cbt_lex.proofs.WordsBack.{led_word, led_last}
 use Rattle.cbt_script.specs.declared.draft.Draft.{Draft}
 use Rattle.cbt_script.specs.declared.keywords.Keyword.TheVariants as k
 use Rattle.cbt_script.specs.declared.keywords.Setting.TheVariants.{Atrs, Expiry, Tries, Lapse, Clock}
@@ -14,8 +17,8 @@ use Rattle.cbt_script.specs.Reading.{taken}
 use Rattle.cbt_script.specs.Rules.{IsLine, IsScript}
 use Rattle.cbt_script.specs.Settings.{no_settings, max_time, max_ms, set_atrs, set_expiry, set_tries, set_lapse, set_clock}
 use Rattle.cbt_script.proofs.Drafted.{drafted, drafted_on}
-use Rattle.cbt_script.proofs.WordsBack.{decimal_word, led_word, number_field-next, behind_space}
-use Rattle.cbt_script.proofs.KeywordsBack.{line_taken, led_last, number_field-last}
+use Rattle.cbt_script.proofs.KeywordsBack.{line_taken}
+use Rattle.cbt_script.proofs.FieldsBack.{number_field-next, number_field-last}
 
 abbrev pub with_settings : Settings → Draft
 with_settings s = record start { settings = s }

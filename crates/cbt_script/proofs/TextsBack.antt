@@ -1,8 +1,8 @@
--- How the canonical texts of JSON values, expressions and conditions begin and end.
-use Rattle.std.proofs.Common.{◌≡◌, ℕ, suc, pos, negsuc, ◌/◌, ◌%◌, ◌^◌, ◌<◌, ◌≤◌, Bool, true, false, cond, ltb, List, [], ◌∷◌, ◌++◌, length, refl, sym, ap, ◌∙◌, subst, arith, append-nil, codes}
+-- How the canonical texts of JSON values begin and end, and that they stand in one line.
+use Rattle.std.proofs.Common.{◌≡◌, ℕ, suc, pos, negsuc, ◌/◌, ◌%◌, ◌^◌, ◌<◌, ◌≤◌, Bool, true, false, cond, ltb, List, [], ◌∷◌, ◌++◌, refl, sym, ap, ◌∙◌, arith, codes}
 use Rattle.std.specs.Char.{digit_char}
 use Rattle.std.specs.List.{AllByRecursion}
-use Rattle.std.proofs.lemmas.Bool.{and_parts}
+use Rattle.std.proofs.lemmas.Bool.{and_parts, ltb-true}
 use Rattle.std.proofs.lemmas.Bool.Decides.{nat_tests}
 use Rattle.json.specs.Print.{escape_letter, escape_byte, escape, quoted}
 use Rattle.serde_json.specs.Data.{Num, unsigned, negative, float, Data, null, boolean, number, string, array, object, Items, no_items, item, Members, no_members, member}
@@ -10,25 +10,10 @@ use Rattle.serde_json.specs.Written.{number_text, compact_text, items_text, memb
 use Rattle.cbt_json.specs.declared.tree.Tree.{Tree}
 use Rattle.cbt_json.specs.Rules.{is_whole, is_regular, items_are_regular, members_are_regular, names_rise, IsJson}
 use Rattle.cbt_json.specs.Trees.{data_of, text_of}
-use Rattle.cbt_script.proofs.LinesBack.{Closes, closes_behind, IsLed, OneLine}
-use Rattle.cbt_script.proofs.WordsBack.{IsWord, all_weaker, all_behind, decimal_word, led_word}
-
--- the last byte of a text that is a word
-pub closes_word_of : (text : List ℕ) → 0 < length text → AllByRecursion (λ b. 32 < b) text → Closes text
-closes_word_of [] some solid = absurd (omega arith)
-closes_word_of (b ∷ []) some solid = let above : 32 < b = solid.0 in record { front = []; last = b; parts = refl; no_space = λ same. omega arith; no_return = λ same. omega arith }
-closes_word_of (b ∷ c ∷ bs) some solid = closes_behind (b ∷ []) (c ∷ bs) (closes_word_of (c ∷ bs) (omega arith) solid.1)
-
-pub closes_word : (word : List ℕ) → IsWord word → Closes word
-closes_word word is = closes_word_of word is.some is.solid
-
-pub one_line_word : (word : List ℕ) → IsWord word → OneLine word
-one_line_word word is = all_weaker (λ b above same. omega arith) word is.solid
-
-pub closes_at : (front : List ℕ) (b : ℕ) → 32 < b → Closes (front ++ b ∷ [])
-closes_at front b above = record { front = front; last = b; parts = refl; no_space = λ same. omega arith; no_return = λ same. omega arith }
-
--- ---- JSON
+use Rattle.cbt_lex.proofs.ByRecursion.{all_weaker, all_behind}
+use Rattle.cbt_lex.proofs.DecimalsBack.{decimal_word}
+use Rattle.cbt_lex.proofs.LinesBack.{Closes, closes_at, closes_behind, NoFeed, IsEdged, opened}
+use Rattle.cbt_lex.proofs.WordsBack.{IsWord, word_edged}
 
 abbrev above_control : ℕ → Type 0
 above_control b = 32 ≤ b
@@ -63,15 +48,12 @@ quoted_control s = (omega arith, all_behind above_control (escape s) (34 ∷ [])
 pub quoted_closes : (s : List ℕ) → Closes (quoted s)
 quoted_closes s = closes_at (34 ∷ escape s) 34 (omega arith)
 
-below_of : (n k : ℕ) → ltb n (2 ^ k) ≡ true → n < 2 ^ k
-below_of n k h = grind (arith, nat_tests)
-
 -- a number's text is a word
 number_word : (n : Num) → is_whole n ≡ true → IsWord (number_text n)
-number_word (unsigned n) whole = decimal_word n (below_of n 64 whole)
+number_word (unsigned n) whole = decimal_word n (ltb-true n (2 ^ 64) whole)
 number_word (negative (pos n)) whole = absurd (cc)
 number_word (negative (negsuc n)) whole =
-    let is = decimal_word (suc n) (let low : n < 2 ^ 63 = below_of n 63 whole in omega arith) in
+    let is = decimal_word (suc n) (let low : n < 2 ^ 63 = ltb-true n (2 ^ 63) whole in omega arith) in
     record { some = omega arith; solid = (omega arith, is.solid) }
 number_word (float x) whole = absurd (cc)
 
@@ -117,18 +99,6 @@ members_close later (member k d ms) =
     (closes_behind (quoted k) (58 ∷ (compact_text d ++ members_text true ms)) (closes_behind (58 ∷ []) (compact_text d ++ members_text true ms)
     (closes_behind (compact_text d) (members_text true ms) (members_close true ms))))
 
--- a text with a first byte above a space, and a last one that ends a line
-pub record IsEdged (text : List ℕ) : Type 0 where
-  pub some : 0 < length text
-  pub led : IsLed text
-  pub closes : Closes text
-
-word_edged : (word : List ℕ) → IsWord word → IsEdged word
-word_edged word is = record { some = is.some; led = subst IsLed (append-nil word) (led_word word [] is); closes = closes_word word is }
-
-pub opened : (b : ℕ) (text : List ℕ) → 32 < b → Closes text → IsEdged (b ∷ text)
-opened b text above closes = record { some = omega arith; led = λ same. omega arith; closes = closes_behind (b ∷ []) text closes }
-
 pub data_edged : (d : Data) → (whole : (n : Num) → d ≡ number n → is_whole n ≡ true) → IsEdged (compact_text d)
 data_edged null whole = opened 110 (codes "ull") (omega arith) (closes_at (codes "ul") 108 (omega arith))
 data_edged (boolean true) whole = opened 116 (codes "rue") (omega arith) (closes_at (codes "ru") 101 (omega arith))
@@ -144,5 +114,5 @@ whole_number d n regular is = ap is_regular (sym is) ∙ regular
 pub json_edged : (tree : Tree) → IsJson tree → IsEdged (text_of tree)
 json_edged tree is = data_edged (data_of tree) (λ n same. whole_number (data_of tree) n is.1 same)
 
-pub json_one_line : (tree : Tree) → IsJson tree → OneLine (text_of tree)
+pub json_one_line : (tree : Tree) → IsJson tree → NoFeed (text_of tree)
 json_one_line tree is = all_weaker (λ b above same. omega arith) (text_of tree) (data_control (data_of tree) is.1)

@@ -7,17 +7,13 @@ use Rattle.cbt_expr.specs.declared.plans.TxnPlan.{TxnPlan}
 use Rattle.cbt_json.specs.declared.tree.Tree.{Tree, out-Tree}
 use Rattle.cbt_json.specs.declared.tree.Tree.TheOpen.{Tree-F}
 use Rattle.cbt_json.specs.Trees.{text_of}
+use Rattle.cbt_lex.specs.Lines.{lined}
 use Rattle.cbt_model.specs.declared.events.Fate.{Fate}
 use Rattle.cbt_model.specs.declared.events.Fate.TheVariants.{Plain, Lost, Late}
 use Rattle.cbt_model.specs.declared.events.Item.{Item}
 use Rattle.cbt_model.specs.declared.events.Item.TheVariants as item
 use Rattle.cbt_script.specs.declared.script.Script.{Script}
 use Rattle.cbt_syntax.specs.Texts.{expr_text, cond_text}
-
--- lines, each ended by a line feed
-abbrev pub lined : List (List ℕ) → List ℕ
-lined [] = []
-lined (line ∷ lines) = line ++ codes "\n" ++ lined lines
 
 -- a word, with the space behind it, and a number
 abbrev pub labelled : List ℕ → ℕ → List ℕ

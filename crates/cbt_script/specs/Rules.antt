@@ -11,6 +11,7 @@ use Rattle.cbt_expr.specs.declared.plans.Op.TheVariants as op
 use Rattle.cbt_expr.specs.declared.plans.TxnPlan.{TxnPlan}
 use Rattle.cbt_json.specs.declared.tree.Tree.{Tree, out-Tree}
 use Rattle.cbt_json.specs.Rules.{IsJson}
+use Rattle.cbt_lex.specs.Lines.{IsOneLine}
 use Rattle.cbt_lex.specs.Names.{is_name}
 use Rattle.cbt_model.specs.Faults.{call_cmp}
 use Rattle.cbt_model.specs.declared.events.Fate.{Fate}
@@ -31,10 +32,6 @@ use Rattle.cbt_syntax.specs.Texts.{expr_text, cond_text}
 
 abbrev pub IsWithin : ℕ → ℕ → ℕ → Type 0
 IsWithin least most n = (least ≤ n) × (n ≤ most)
-
--- no byte of a text is a line feed
-abbrev pub IsOneLine : List ℕ → Type 0
-IsOneLine text = All (λ b. b ≢ 10) text
 
 -- a name that an actor may have
 abbrev pub IsActorName : List ℕ → Type 0

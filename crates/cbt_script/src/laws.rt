@@ -18,3 +18,10 @@ pub fn scripts_keep_rules()
 pub fn text_reads_back()
     ensures { (bytes : List ℕ) (s : Script) → script_of bytes ≡ Ok s → IsUtf8 (script_text s) → script_of (script_text s) ≡ Ok s }
 {}
+
+/// A law: a text that is the canonical one of a script that keeps the rules reads as this script. It is
+/// UTF-8 by its type.
+pub fn written_text_reads_back(script: &crate::Script, text: &str)
+    requires { text.now ≡ script_text script.now }
+    ensures { IsScript script.now → script_of text.now ≡ Ok script.now }
+{}

@@ -19,5 +19,5 @@ mod settings;
 mod tests;
 
 pub use cause::{Bad, Cause, ScriptFault};
-pub use laws::{scripts_keep_rules, text_reads_back};
+pub use laws::{scripts_keep_rules, text_reads_back, written_text_reads_back};
 pub use script::Script;

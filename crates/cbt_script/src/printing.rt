@@ -1,8 +1,12 @@
 //! The canonical text of a script.
 
-ghost use Rattle.std.specs.Prelude.{◌≡◌, ◌++◌, IfOk, OnOk, codes, decimal};
-ghost use Rattle.cbt_script.specs.Printed.{lined, script_text, settings_lines, clock_lines, doc_lines, doc_line, attrs_lines, client_lines, txn_lines, plan_lines, op_lines, op_line, end_line, cleaner_lines, stop_lines, fault_lines, fault_line, fate_word, order_lines, items_text, item_text, sweep_lines, name_of, is_empty_object, labelled};
+ghost use Rattle.std.specs.Prelude.{◌≡◌, ◌++◌, Ok, IfOk, OnOk, codes, decimal};
+ghost use Rattle.cbt_lex.specs.Lines.{lined};
+ghost use Rattle.cbt_script.specs.Printed.{script_text, settings_lines, clock_lines, doc_lines, doc_line, attrs_lines, client_lines, txn_lines, plan_lines, op_lines, op_line, end_line, cleaner_lines, stop_lines, fault_lines, fault_line, fate_word, order_lines, items_text, item_text, sweep_lines, name_of, is_empty_object, labelled};
+ghost use Rattle.cbt_script.specs.Reading.{script_of};
+ghost use Rattle.cbt_script.specs.Rules.{IsScript};
 
+use crate::laws::written_text_reads_back;
 use crate::script::Script;
 use cbt_base::{DocId, NoMemory, Text};
 use cbt_expr::{ClientPlan, Op, TxnPlan};
@@ -16,8 +20,17 @@ impl Script {
     /// The canonical text: one space between words, no empty lines or comments, every setting but the
     /// clock line always there, every `begin` with its three pairs, one `order` line at most, faults in
     /// the order stop, lost, late and by actor and call, and canonical JSON and expressions. Reading it
-    /// gives this script, where it was read itself.
+    /// gives this script, where it keeps the rules, as each script does that was read itself.
     pub fn text(&self, alloc: Global) -> Result<Text, NoMemory>
+        ensures text { IfOk result (λ text. text ≡ script_text self.now) }
+        ensures reads_back { IfOk result (λ text. IsScript self.now → script_of text ≡ Ok self.now) }
+    {
+        let text = self.canonical(alloc)?;
+        written_text_reads_back(self, text.as_str());
+        Ok(text)
+    }
+
+    fn canonical(&self, alloc: Global) -> Result<Text, NoMemory>
         ensures { IfOk result (λ text. text ≡ script_text self.now) }
     {
         let mut out = Text::from_str(alloc, "")?;

@@ -1,5 +1,6 @@
 use Rattle.std.proofs.Common.{◌+◌, ◌++◌, drop, codes, ap, sym, ◌∙◌, arith}
-use Rattle.cbt_script.specs.Printed.{lined, client_lines, txn_lines}
+use Rattle.cbt_lex.specs.Lines.{lined}
+use Rattle.cbt_script.specs.Printed.{client_lines, txn_lines}
 use Rattle.cbt_script.proofs.Lined.{at_item, named_written}
 use Rattle.cbt_script.proofs.printing.push_clients.Goals as goal
 

@@ -1,5 +1,6 @@
 use Rattle.std.proofs.Common.{[], ◌∷◌, ◌++◌, codes, ap, ◌∙◌}
-use Rattle.cbt_script.specs.Printed.{lined, labelled, op_lines, end_line}
+use Rattle.cbt_lex.specs.Lines.{lined}
+use Rattle.cbt_script.specs.Printed.{labelled, op_lines, end_line}
 use Rattle.cbt_script.proofs.Lined.{plan_written}
 use Rattle.cbt_script.proofs.printing.push_plan.Goals as goal
 

@@ -1,5 +1,6 @@
 use Rattle.std.proofs.Common.{◌+◌, ◌++◌, drop, ap, sym, ◌∙◌, arith}
-use Rattle.cbt_script.specs.Printed.{lined, txn_lines, plan_lines}
+use Rattle.cbt_lex.specs.Lines.{lined}
+use Rattle.cbt_script.specs.Printed.{txn_lines, plan_lines}
 use Rattle.cbt_script.proofs.Lined.{at_item, next_written}
 use Rattle.cbt_script.proofs.printing.push_plans.Goals as goal
 

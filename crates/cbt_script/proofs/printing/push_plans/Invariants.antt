@@ -1,5 +1,6 @@
 use Rattle.std.proofs.Common.{◌≡◌, ◌++◌, drop}
-use Rattle.cbt_script.specs.Printed.{lined, txn_lines}
+use Rattle.cbt_lex.specs.Lines.{lined}
+use Rattle.cbt_script.specs.Printed.{txn_lines}
 use Rattle.cbt_script.proofs.printing.push_plans.Given as goal
 
 -- what is written and the lines that are left make the whole

@@ -1,5 +1,6 @@
 use Rattle.std.proofs.Common.{◌≡◌, ◌++◌}
-use Rattle.cbt_script.specs.Printed.{lined, fault_lines}
+use Rattle.cbt_lex.specs.Lines.{lined}
+use Rattle.cbt_script.specs.Printed.{fault_lines}
 use Rattle.cbt_script.proofs.script.Script.push_faults.Given as goal
 
 -- what is written and the lines that are left make the whole

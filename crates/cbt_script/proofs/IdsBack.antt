@@ -1,38 +1,13 @@
--- Names and identifiers of documents are words.
-use Rattle.std.proofs.Common.{◌≡◌, ℕ, suc, ◌+◌, ◌<◌, ◌≤◌, Bool, true, false, cond, eqb, ltb, leb, not, ◌&&◌, List, [], ◌∷◌, length, Option, Some, None, position, refl, arith}
-use Rattle.std.specs.List.{AllByRecursion, position_or_len, list_all}
-use Rattle.std.proofs.lemmas.Bool.{and_parts, ltb-false}
+-- Identifiers of documents are words.
+use Rattle.std.proofs.Common.{◌≡◌, ℕ, suc, ◌+◌, ◌<◌, ◌≤◌, Bool, true, false, cond, eqb, ltb, not, List, [], ◌∷◌, length, Option, Some, None, position, refl, arith}
+use Rattle.std.specs.List.{AllByRecursion, position_or_len}
+use Rattle.std.proofs.lemmas.Bool.{ltb-false}
 use Rattle.std.proofs.lemmas.Bool.Decides.{nat_tests}
 use Rattle.cbt_base.specs.declared.doc_id.IdFault.{IdFault}
 use Rattle.cbt_base.specs.declared.doc_id.IdFault.TheVariants.{Empty, TooLong}
 use Rattle.cbt_base.specs.Ids.{is_id_byte, byte_fault, IsDocId}
-use Rattle.cbt_lex.specs.Names.{is_lower, is_name_byte, is_name}
-use Rattle.cbt_script.proofs.WordsBack.{IsWord, all_weaker}
-
-pub all_pass : (p : ℕ → Bool) (bs : List ℕ) → list_all p bs ≡ true → AllByRecursion (λ b. p b ≡ true) bs
-all_pass p [] all = tt
-all_pass p (b ∷ bs) all = let parts = and_parts (p b) (list_all p bs) all in (parts.0, all_pass p bs parts.1)
-
-lower_byte : (b : ℕ) → is_lower b ≡ true → is_name_byte b ≡ true
-lower_byte b is = grind (arith, nat_tests)
-
-pub name_bytes : (name : List ℕ) → is_name name ≡ true → AllByRecursion (λ b. is_name_byte b ≡ true) name
-name_bytes [] named = absurd (cc)
-name_bytes (b ∷ bs) named =
-    let p = and_parts (is_lower b && leb (length bs) 31) (list_all is_name_byte bs) named in
-    (lower_byte b (and_parts (is_lower b) (leb (length bs) 31) p.0).0, all_pass is_name_byte bs p.1)
-
-name_above : (b : ℕ) → is_name_byte b ≡ true → 32 < b
-name_above b is = grind (arith, nat_tests)
-
-some_name : (name : List ℕ) → is_name name ≡ true → 0 < length name
-some_name [] named = absurd (cc)
-some_name (b ∷ bs) named = omega arith
-
-pub name_word : (name : List ℕ) → is_name name ≡ true → IsWord name
-name_word name named = record { some = some_name name named; solid = all_weaker name_above name (name_bytes name named) }
-
--- ---- identifiers
+use Rattle.cbt_lex.proofs.ByRecursion.{all_weaker}
+use Rattle.cbt_lex.proofs.WordsBack.{IsWord}
 
 id_above : (b : ℕ) → is_id_byte b ≡ true → 32 < b
 id_above b is = grind (arith, nat_tests)

@@ -1,8 +1,9 @@
 use Rattle.std.proofs.Common.{[], ◌++◌, ap, ◌∙◌}
+use Rattle.cbt_lex.specs.Lines.{lined}
 use Rattle.cbt_model.specs.declared.events.Fate.TheVariants.{Lost, Late}
-use Rattle.cbt_script.specs.Printed.{lined, script_text, settings_lines, doc_lines, client_lines, cleaner_lines, stop_lines, fault_lines, order_lines, sweep_lines}
+use Rattle.cbt_script.specs.Printed.{script_text, settings_lines, doc_lines, client_lines, cleaner_lines, stop_lines, fault_lines, order_lines, sweep_lines}
 use Rattle.cbt_script.proofs.Lined.{grown}
-use Rattle.cbt_script.proofs.script.Script.text.Goals as goal
+use Rattle.cbt_script.proofs.script.Script.canonical.Goals as goal
 
 -- each part behind those before it
 pub returns : goal.returns
