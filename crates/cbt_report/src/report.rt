@@ -5,12 +5,13 @@ ghost use Rattle.cbt_base.specs.Clock.{clock_of};
 ghost use Rattle.cbt_model.specs.View.{view};
 ghost use Rattle.cbt_report.specs.Report.{txn_line, txn_lines, client_lines, doc_line, doc_lines, is_held, is_dead, staged_count, dead_count, state_lines, report_text};
 
-use crate::lines::{push_number, push_number_line};
+use crate::lines::push_number_line;
 use crate::outcomes::outcome;
 use crate::replay::end_of;
 use cbt_base::{DocId, NoMemory, Text};
 use cbt_book::{Book, ClientLog, TxnEnd, TxnLog};
 use cbt_expr::ClientPlan;
+use cbt_lex::push_number;
 use cbt_model::{Stage, State, view};
 use cbt_script::Script;
 use std::alloc::Global;

@@ -3,8 +3,6 @@
 #![tactic(auto)]
 
 mod called;
-#[cfg(test)]
-mod copies;
 mod misread;
 mod rows;
 mod unlawful;

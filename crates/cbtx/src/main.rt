@@ -2,6 +2,8 @@
 //! what happened.
 #![tactic(auto)]
 
+#[cfg(test)]
+mod copies;
 mod lists;
 mod one_replace;
 mod replace;

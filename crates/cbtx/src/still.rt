@@ -7,7 +7,7 @@ ghost use Rattle.cbt_core.specs.Laws.{NeverBoth, CommitsOnce};
 ghost use Rattle.cbt_report.specs.Report.{report_text};
 ghost use Rattle.cbt_script.specs.Opening.{opening_of};
 ghost use Rattle.cbtx.specs.Headline.{IsInTurn, IsLegalFor, IsRunOf, HasCommitted, ShowsTable, WhereRan};
-ghost use Rattle.cbt_base.specs.Streams.{ReadPast};
+ghost use Rattle.cbt_base.specs.Streams.{ReadPast, ReadUpTo};
 ghost use Rattle.cbtx.specs.OneReplace.{Runs};
 ghost use Rattle.cbtx.specs.Statuses.{IsCut, IsCutOff, IsRefused, IsReported, IsScriptRead, IsWritten, bad_line, max_input, not_built_line, usage_line};
 ghost use Rattle.cbtx.specs.Words.{is_sim};
@@ -75,14 +75,19 @@ pub fn still<S: Source, K: Sink, C: Clock>(
     ensures reported { result.status ≡ 0 → IsReported (K.taken out.old) (K.taken out.new) result.script result.book }
 
     // At status 1 the input is no script, and its first bad line and the cause were written; or it is a script that cannot run
-    // yet. At status 6 it has too many bytes, and nothing was written.
+    // yet. At status 6, and only there, more bytes were taken than an input may have, and nothing was written.
     ensures refused { result.status ≡ 1 → IsRefused (S.left src.old) (S.left src.new) (K.taken out.old) (K.taken out.new) }
     ensures too_long { result.status ≡ 6 → ReadPast (S.left src.old) (S.left src.new) max_input × Keeps (K.taken out.old) (K.taken out.new) }
+    ensures within { (result.status ≡ 6 → ⊥) → ReadUpTo (S.left src.old) (S.left src.new) max_input }
+    ensures unread { is_sim words.now ≡ false → Keeps (S.left src.old) (S.left src.new) }
 
     // The source's faults give status 3, with nothing written. The sink's give status 4, with a front of the text that was due.
     ensures read_failed { result.status ≡ 3 → Rose (S.faults src.old) (S.faults src.new) × Keeps (K.taken out.old) (K.taken out.new) }
     ensures write_failed { result.status ≡ 4 → IsCutOff (is_sim words.now) (S.left src.old) (S.left src.new) (K.taken out.old) (K.taken out.new)
         (K.faults out.old) (K.faults out.new) result.script result.book }
+
+    // Memory may run out at any time before the first write, and at none behind it.
+    ensures no_memory { result.status ≡ 5 → Keeps (K.taken out.old) (K.taken out.new) }
     ensures statuses { result.status < 7 }
 
     // The script is there exactly where the book is: where the script ran.
@@ -118,9 +123,11 @@ fn sim<S: Source, K: Sink, C: Clock>(alloc: Global, src: &mut S, out: &mut K, cl
     ensures reported { result.status ≡ 0 → IsReported (K.taken out.old) (K.taken out.new) result.script result.book }
     ensures refused { result.status ≡ 1 → IsRefused (S.left src.old) (S.left src.new) (K.taken out.old) (K.taken out.new) }
     ensures too_long { result.status ≡ 6 → ReadPast (S.left src.old) (S.left src.new) max_input × Keeps (K.taken out.old) (K.taken out.new) }
+    ensures within { (result.status ≡ 6 → ⊥) → ReadUpTo (S.left src.old) (S.left src.new) max_input }
     ensures read_failed { result.status ≡ 3 → Rose (S.faults src.old) (S.faults src.new) × Keeps (K.taken out.old) (K.taken out.new) }
     ensures write_failed { result.status ≡ 4 → IsCutOff true (S.left src.old) (S.left src.new) (K.taken out.old) (K.taken out.new)
         (K.faults out.old) (K.faults out.new) result.script result.book }
+    ensures no_memory { result.status ≡ 5 → Keeps (K.taken out.old) (K.taken out.new) }
     ensures statuses { result.status < 7 }
     ensures together { is_some result.script ≡ is_some result.book }
     ensures no_book { ((0 < result.status) × (result.status < 4)) ⊎ (result.status ≡ 6) → result.book ≡ None }
@@ -150,6 +157,7 @@ fn run<K: Sink, C: Clock>(alloc: Global, out: &mut K, script: Script, clock: C) 
         → IsCut (K.taken out.old) (K.taken out.new) (K.faults out.old) (K.faults out.new) (report_text script book) }
     ensures refusal_cut { result.status ≡ 4 → result.book ≡ None
         → (Runs script → ⊥) × IsCut (K.taken out.old) (K.taken out.new) (K.faults out.old) (K.faults out.new) not_built_line }
+    ensures no_memory { result.status ≡ 5 → Keeps (K.taken out.old) (K.taken out.new) }
     ensures together { is_some result.script ≡ is_some result.book }
     ensures no_book { result.status ≡ 1 → result.book ≡ None }
     ensures same { (s : Script) → result.script ≡ Some s → s ≡ script }
@@ -179,6 +187,7 @@ fn report<K: Sink>(alloc: Global, out: &mut K, script: Script, book: Book) -> Ra
     ensures book { result.book ≡ Some book }
     ensures reported { result.status ≡ 0 → Appends (K.taken out.old) (K.taken out.new) (report_text script book) }
     ensures cut { result.status ≡ 4 → IsCut (K.taken out.old) (K.taken out.new) (K.faults out.old) (K.faults out.new) (report_text script book) }
+    ensures no_memory { result.status ≡ 5 → Keeps (K.taken out.old) (K.taken out.new) }
 {
     let status = match report_of(alloc, &script, &book) {
         Ok(text) => written(out, text.as_str(), 0),
@@ -196,6 +205,7 @@ fn refuse<K: Sink>(alloc: Global, out: &mut K, bad: Bad) -> u8
     ensures no_others { (result ≡ 1) ⊎ (result ≡ 4) ⊎ (result ≡ 5) }
     ensures whole { result ≡ 1 → Appends (K.taken out.old) (K.taken out.new) (bad_line bad) }
     ensures cut { result ≡ 4 → IsCut (K.taken out.old) (K.taken out.new) (K.faults out.old) (K.faults out.new) (bad_line bad) }
+    ensures no_memory { result ≡ 5 → Keeps (K.taken out.old) (K.taken out.new) }
 {
     match bad_text(alloc, bad) {
         Ok(text) => written(out, text.as_str(), 1),
