@@ -1,5 +1,6 @@
 -- What an answer tells of the state in which it was given.
 use Rattle.std.proofs.Common.{◌≡◌, ◌≢◌, ℕ, Bool, true, false, cond, nat_eq, List, [], ◌∷◌, Option, Some, None, ◌⊎◌, inl, inr, ⊎_elim, refl, sym, ap, ◌∙◌, subst, slice_get, arith}
+use Rattle.std.proofs.lemmas.Bool.{eqb-true}
 use Rattle.std.proofs.lemmas.Grind.{common_steps}
 use Rattle.std.proofs.lemmas.Option.{none-some}
 use Rattle.std.specs.List.{cons_option, AllByRecursion}
@@ -34,7 +35,7 @@ use Rattle.cbt_model.proofs.Ordered.{ordered-after}
 use Rattle.cbt_model.proofs.Orders.{entry_order, key_cases, key_itself}
 use Rattle.cbt_book.specs.OwnLists.{In}
 use Rattle.cbt_core.specs.OpAnswers.{is_refusal}
-use Rattle.cbt_core.proofs.Past.{same_number, some_same}
+use Rattle.cbt_core.proofs.Past.{some_same}
 
 -- a document as an answer shows it
 pub record DocShown (s : State) (d : List ℕ) (x : ℕ) (body : Option Json) (stage : Option Stage) : Type 0 where
@@ -168,7 +169,7 @@ in_entries r a e (p ∷ m) there = by_test (nat_eq p.0.0 r) refl (λ past. in_en
     by_test : (b : Bool) → nat_eq p.0.0 r ≡ b → (In (a, e) (entries_of r m) → In ((r, a), e) m)
         → In (a, e) (cons_option (cond b (Some (p.0.1, p.1)) None) (entries_of r m)) → In ((r, a), e) (p ∷ m)
     by_test true is ih listed =
-        ⊎_elim (λ (here : ◌≡◌ {A = ℕ × Entry} (a, e) (p.0.1, p.1)). inl (here_is (sym (same_number p.0.0 r is)) here)) (λ (past : In (a, e) (entries_of r m)). inr (ih past)) listed
+        ⊎_elim (λ (here : ◌≡◌ {A = ℕ × Entry} (a, e) (p.0.1, p.1)). inl (here_is (sym (eqb-true p.0.0 r is)) here)) (λ (past : In (a, e) (entries_of r m)). inr (ih past)) listed
     by_test false is ih listed = inr (ih listed)
 
 all_in : (P : ℕ × ℕ → Type 0) (k : ℕ × ℕ) (v : Entry) (m : List ((ℕ × ℕ) × Entry)) → AllByRecursion P (keys_of m) → In (k, v) m → P k

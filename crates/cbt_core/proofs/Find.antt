@@ -1,6 +1,6 @@
 -- Where a call of a client stands in its log: in which transaction, attempt and operation.
-use Rattle.std.proofs.Common.{◌≡◌, ◌≢◌, ℕ, suc, ◌+◌, ◌^◌, ◌<◌, ◌≤◌, Bool, true, false, ◌&&◌, ⊎_elim, List, [], ◌∷◌, slice_get, Some, refl, sym, ap, ◌∙◌, subst, arith}
-use Rattle.std.proofs.lemmas.Bool.{cases_lt}
+use Rattle.std.proofs.Common.{◌≡◌, ◌≢◌, ℕ, suc, ◌+◌, ◌^◌, ◌<◌, ◌≤◌, Bool, true, false, ⊎_elim, List, [], ◌∷◌, slice_get, Some, refl, sym, ap, ◌∙◌, subst, arith}
+use Rattle.std.proofs.lemmas.Bool.{cases_lt, and_parts}
 use Rattle.cbt_base.specs.Ids.{attempt_number}
 use Rattle.cbt_expr.specs.declared.plans.ClientPlan.{ClientPlan}
 use Rattle.cbt_expr.specs.declared.plans.Op.{Op}
@@ -34,10 +34,6 @@ pub record OpHome (t : AttemptTerms) (l : List Made) (logs : List OpLog) (m : Ma
   pub inside : In m (during log.span l)
   pub good : all_good logs ≡ true → is_good log.answer ≡ true
 
-both_true : (a b : Bool) → (a && b) ≡ true → (a ≡ true) × (b ≡ true)
-both_true true b is = (refl, is)
-both_true false b is = absurd (cc)
-
 pub find_op : (t : AttemptTerms) (l : List Made) (at n : ℕ) (so : Sofar) (ops : List Op) (logs : List OpLog) (m : Made) → OpsFollow t l at n so ops logs → In m l → at ≤ m.answer.place
     → m.answer.place < ops_end at logs → OpHome t l logs m
 find_op t l at n so ops [] m follow there low high = absurd (omega arith)
@@ -51,7 +47,7 @@ find_op t l at n so (o ∷ ops) (log ∷ logs) m follow there low high =
       log = log;
       follows = follow.0;
       inside = in_during log.span m l there (after_gap l at log.span m follow.0.spanned there low) inside;
-      good = λ all. (both_true (is_good log.answer) (all_good logs) all).0;
+      good = λ all. (and_parts (is_good log.answer) (all_good logs) all).0;
     })
     (λ (past : log.span.to ≤ m.answer.place).
     let it = find_op t l log.span.to (suc n) (noted o log so) ops logs m follow.2 there past high in
@@ -63,7 +59,7 @@ find_op t l at n so (o ∷ ops) (log ∷ logs) m follow there low high =
       log = it.log;
       follows = it.follows;
       inside = it.inside;
-      good = λ all. it.good (both_true (is_good log.answer) (all_good logs) all).1;
+      good = λ all. it.good (and_parts (is_good log.answer) (all_good logs) all).1;
     })
     (cases_lt m.answer.place log.span.to)
 

@@ -1,6 +1,6 @@
 -- The words on own lists, as places of the history.
 use Rattle.std.proofs.Common.{◌≡◌, ℕ, zero, suc, ◌<◌, ◌≤◌, Bool, true, false, cond, nat_eq, ◌⊎◌, inl, inr, ⊎_elim, List, [], ◌∷◌, slice_get, Option, Some, None, refl, sym, ap, ◌∙◌, subst, arith}
-use Rattle.std.proofs.lemmas.Bool.{cases_lt}
+use Rattle.std.proofs.lemmas.Bool.{cases_lt, eqb-true, eq-eqb}
 use Rattle.std.proofs.lemmas.Grind.{common_steps}
 use Rattle.std.proofs.lemmas.Option.{none-some}
 use Rattle.cbt_model.specs.History.{own, own_more, made_at}
@@ -30,12 +30,6 @@ pub data Order (i j : ℕ) : Type 0 where
 pub order : (i j : ℕ) → Order i j
 order i j = ⊎_elim (λ (l : i < j). first l) (λ (g : j ≤ i). ⊎_elim (λ (b : j < i). after b) (λ (s : i ≤ j). equal (omega arith)) (cases_lt j i)) (cases_lt i j)
 
-pub same_number : (m n : ℕ) → nat_eq m n ≡ true → m ≡ n
-same_number m n same = grind (arith, common_steps)
-
-tests_true : (m n : ℕ) → m ≡ n → nat_eq m n ≡ true
-tests_true m n same = grind (arith, common_steps)
-
 true-false : true ≡ false → ⊥
 true-false e = cc
 
@@ -50,11 +44,11 @@ module _ (s0 : State) (h : List Event) where
     where
       by_test : (e : Event) → slice_get h i ≡ Some e → (b : Bool) → nat_eq e.actor actor ≡ b → Whose actor i
       by_test e at true is =
-          mine e at (same_number e.actor actor is)
+          mine e at (eqb-true e.actor actor is)
           (ap (λ o. own_more s0 h actor i o (own s0 h actor i)) at ∙ ap (λ b. cond b (made_at s0 h i e ∷ own s0 h actor i) (own s0 h actor i)) is)
       by_test e at false is =
           other (ap (λ o. own_more s0 h actor i o (own s0 h actor i)) at ∙ ap (λ b. cond b (made_at s0 h i e ∷ own s0 h actor i) (own s0 h actor i)) is)
-          (λ x there by. true-false (sym (tests_true e.actor actor (ap (λ (y : Event). y.actor) (one_event h i e x at there) ∙ by)) ∙ is))
+          (λ x there by. true-false (sym (eq-eqb e.actor actor (ap (λ (y : Event). y.actor) (one_event h i e x at there) ∙ by)) ∙ is))
 
       go : (o : Option Event) → slice_get h i ≡ o → Whose actor i
       go None at = other (ap (λ o. own_more s0 h actor i o (own s0 h actor i)) at) (λ x there by. none-some x (sym at ∙ there))

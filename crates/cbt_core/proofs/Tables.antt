@@ -1,5 +1,6 @@
 -- At every place documents resolve to the committed table of the logs' write sets.
-use Rattle.std.proofs.Common.{◌≡◌, ◌≢◌, ℕ, zero, suc, Bool, true, false, not, ◌&&◌, if◌then◌else◌, List, ◌++◌, slice_get, Option, Some, None, refl, sym, ap, ◌∙◌, subst, arith}
+use Rattle.std.proofs.Common.{◌≡◌, ◌≢◌, ℕ, zero, suc, Bool, true, false, not, List, ◌++◌, slice_get, Option, Some, None, refl, sym, ap, ◌∙◌, subst, arith, if◌then◌else◌}
+use Rattle.std.proofs.lemmas.Bool.{and_from, and_parts}
 use Rattle.std.proofs.lemmas.Option.{none-some}
 use Rattle.std.specs.Option.{option_to_list}
 use Rattle.cbt_json.specs.declared.value.Json.{Json}
@@ -46,19 +47,12 @@ true_not_lost Plain is = λ q. cc
 true_not_lost Lost is = absurd (cc)
 true_not_lost Late is = λ q. cc
 
-both_true : (a b : Bool) → a ≡ true → b ≡ true → (a && b) ≡ true
-both_true a b one two = ap (λ x. x && b) one ∙ two
-
-parts_true : (a b : Bool) → (a && b) ≡ true → (a ≡ true) × (b ≡ true)
-parts_true true b is = (refl, is)
-parts_true false b is = absurd (cc)
-
 module _ (s0 : State) (h : List Event) where
   -- an effective commit counts among the commits
   pub counted : (i a : ℕ) (e : Event) → TakesEffect s0 h i e → commits e.step ≡ Some a → committed_by (after s0 h i) (slice_get h i) ≡ Some a
   counted i a e takes is =
       ap (λ o. committed_by (after s0 h i) o) takes.event
-      ∙ ap (λ b. if b then commits e.step else None) (both_true (not (is_lost e.fate)) (is_done (row_at_event (after s0 h i) e).reply) (not_lost_true e.fate takes.not_lost) takes.done)
+      ∙ ap (λ b. if b then commits e.step else None) (and_from (not (is_lost e.fate)) (is_done (row_at_event (after s0 h i) e).reply) (not_lost_true e.fate takes.not_lost) takes.done)
       ∙ is
 
   -- and what counts is one
@@ -67,7 +61,7 @@ module _ (s0 : State) (h : List Event) where
     where
       by_test : (e : Event) (b : Bool) → slice_get h i ≡ Some e → takes_effect (after s0 h i) e ≡ b → (if b then commits e.step else None) ≡ Some a → (e : Event) × TakesEffect s0 h i e × (commits e.step ≡ Some a)
       by_test e true at test commit_is =
-          let parts = parts_true (not (is_lost e.fate)) (is_done (row_at_event (after s0 h i) e).reply) test in
+          let parts = and_parts (not (is_lost e.fate)) (is_done (row_at_event (after s0 h i) e).reply) test in
           (e, record { event = at; not_lost = true_not_lost e.fate parts.0; done = parts.1 }, commit_is)
       by_test e false at test commit_is = absurd (none-some a commit_is)
 

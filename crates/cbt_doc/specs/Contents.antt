@@ -11,7 +11,7 @@ use Rattle.cbt_doc.specs.declared.docs.BodyChange.{BodyChange}
 use Rattle.cbt_doc.specs.declared.docs.BodyChange.TheVariants as body
 use Rattle.cbt_doc.specs.declared.docs.DocFault.{DocFault}
 use Rattle.cbt_doc.specs.declared.docs.DocFault.TheVariants.{Path}
-use Rattle.cbt_doc.specs.Attributes.{no_attributes, kept_attributes}
+use Rattle.cbt_json.specs.Attributes.{no_attributes, kept_attributes}
 
 -- the content that a call begins with: where there is no document, no attributes and no body
 abbrev pub content_of : Option Doc → Content

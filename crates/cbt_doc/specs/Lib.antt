@@ -1,4 +1,3 @@
-pub mod Attributes
 pub mod Refusals
 pub mod Contents
 pub mod Rules

@@ -6,7 +6,6 @@ ghost use Rattle.cbt_doc.specs.Contents.{content_of, content_changed, all_change
 ghost use Rattle.cbt_subdoc.specs.Edits.{Does};
 ghost use Rattle.cbt_doc.specs.Rules.{HasRules, Makes};
 
-use crate::attributes::kept_attributes;
 use crate::docs::{BodyChange, Doc, DocFault, DocMut};
 use cbt_base::{Duplicate, List, NoMemory};
 use cbt_json::{Json, Tree};
@@ -122,7 +121,7 @@ pub(crate) fn finish(
         BodyChange::Delete => Ok(Doc {
             cas,
             body: None,
-            attrs: kept_attributes(alloc, attrs)?,
+            attrs: Json::of(attrs).unwrap().kept_attributes(alloc)?,
         }),
     }
 }

@@ -1,7 +1,6 @@
 //! Documents with attributes and tombstones, and the calls that look into them and change them.
 #![tactic(auto)]
 
-mod attributes;
 mod calls;
 mod contents;
 mod docs;

@@ -1,5 +1,5 @@
 -- The text of a JSON value reads as it.
-use Rattle.std.proofs.Common.{◌≡◌, ℕ, pos, negsuc, suc, ◌<◌, ◌≤◌, ◌^◌, max, List, [], true, Some, option_map, option_and_then, Ordering, Less, Equal, Greater, refl, sym, ap, ap₂, ◌∙◌, subst, arith, append-nil, ltb}
+use Rattle.std.proofs.Common.{◌≡◌, ℕ, pos, negsuc, suc, ◌<◌, ◌≤◌, ◌^◌, max, List, [], true, Some, option_map, option_and_then, Ordering, Less, Greater, refl, sym, ap, ap₂, ◌∙◌, subst, arith, append-nil, ltb}
 use Rattle.std.proofs.lemmas.Bool.{and_parts}
 use Rattle.std.proofs.lemmas.Bool.Decides.{nat_tests}
 use Rattle.std.proofs.lemmas.Cmp.{nat_list_cmp_total}
@@ -16,6 +16,7 @@ use Rattle.serde_json.specs.Read.{number_of, of_json, of_items, of_members, max_
 use Rattle.serde_json.specs.Written.{number_text, outline, items_outline, members_outline, compact_text}
 use Rattle.serde_json.proofs.Numbers.{number_of-decimal, number_of-negative}
 use Rattle.serde_json.proofs.Texts.{print-outline}
+use Rattle.cbt_json.proofs.Proper.{less}
 use Rattle.cbt_json.proofs.Numbers.{IsNumber-decimal_wide, IsNumber-negative_wide}
 use Rattle.cbt_json.specs.Rules.{is_whole, rises_from, names_rise, is_regular, items_are_regular, members_are_regular}
 
@@ -78,11 +79,6 @@ mutual
 abbrev joined : Members → Members → Members
 joined no_members ms = ms
 joined (member k d first) ms = member k d (joined first ms)
-
-less : (o : Ordering) → is_lt o ≡ true → o ≡ Less
-less Less h = refl
-less Equal h = absurd (cc)
-less Greater h = absurd (cc)
 
 joined-nil : (first : Members) → joined first no_members ≡ first
 joined-nil no_members = refl

@@ -7,3 +7,4 @@ pub mod Inverse
 pub mod Again
 pub mod Read
 pub mod Alike
+pub mod KeptMembers

@@ -93,7 +93,8 @@ each-put : (k : List ℕ) (d : Data) (ms : Members) → Proper d → EachProper 
 each-put k d no_members p h = (p, tt)
 each-put k d (member l e ms) p h = each-match_ordering _ (member k d (member l e ms)) (member l d ms) (member l e (put k d ms)) (p, h) (p, h.1) (h.0, each-put k d ms p h.1)
 
-less : (o : Ordering) → is_lt o ≡ true → o ≡ Less
+-- what a test of an order has told
+pub less : (o : Ordering) → is_lt o ≡ true → o ≡ Less
 less Less h = refl
 less Equal h = absurd (cc)
 less Greater h = absurd (cc)

@@ -1,4 +1,5 @@
 pub mod Trees
+pub mod Attributes
 pub mod Rules
 pub mod Fit
 pub mod Tokens

@@ -2,6 +2,7 @@
 //! rise by bytes.
 #![tactic(auto)]
 
+mod attributes;
 mod fault;
 mod fit;
 mod laws;

@@ -21,6 +21,7 @@ use Rattle.cbt_model.specs.declared.steps.Reply.{Reply}
 use Rattle.cbt_model.specs.declared.steps.Reply.TheVariants as reply
 use Rattle.cbt_model.specs.declared.steps.Step.{Step}
 use Rattle.cbt_model.specs.declared.steps.Step.TheVariants as step
+use Rattle.cbt_model.proofs.Does.{Does, does, refuses, stages_new, stages_over, publishes, deletes, unsticks, adds, commits, aborts, drops, beats}
 use Rattle.cbt_model.proofs.Moves.{EntryMove, DocMove, same, added, committed, aborted, dropped, staged_new, staged_over, published, deleted, unstuck, entry_moves, doc_moves, quiet_row, done_last}
 
 abbrev is_failed : Reply → Bool
@@ -128,6 +129,24 @@ other-entry s r st k ordered other = go (is_done (apply_to s r st).1) refl
     go : (b : Bool) → is_done (apply_to s r st).1 ≡ b → entry_at (apply_to s r st).0 k ≡ entry_at s k
     go true done = stays _ (entry_moves s (clock_mutated s.last r) r st k ordered done)
     go false not_done = ap (λ x. entry_at x k) (refused-quiet s r st not_done)
+
+-- the rows of the client record, by a step that changes a document or an entry
+kept-rows : (s : State) (c r : ℕ) {st : Step} {it : Row} → Does s c st it → (touches_doc st ≢ None) ⊎ (touches st ≢ None) → (changed s r it.change).clients ≡ s.clients
+kept-rows s c r (refuses st answer not_done) named = refl
+kept-rows s c r (stages_new d stage at) named = refl
+kept-rows s c r (stages_over d x stage old at cas) named = refl
+kept-rows s c r (publishes d x body old at cas) named = refl
+kept-rows s c r (deletes d x old at cas) named = refl
+kept-rows s c r (unsticks d x old at cas) named = refl
+kept-rows s c r (adds ar a exp at) named = refl
+kept-rows s c r (commits ar a lists old at pending) named = refl
+kept-rows s c r (aborts ar a lists old at pending) named = refl
+kept-rows s c r (drops ar a guarded old at may) named = refl
+kept-rows s c r (beats me expires n gone) (inl doc) = absurd (doc refl)
+kept-rows s c r (beats me expires n gone) (inr entry) = absurd (entry refl)
+
+pub same-rows : (s : State) (r : ℕ) (st : Step) → (touches_doc st ≢ None) ⊎ (touches st ≢ None) → (apply_to s r st).0.clients ≡ s.clients
+same-rows s r st named = kept-rows s (clock_mutated s.last r) r (does s (clock_mutated s.last r) st) named
 
 pub one-kind : (st : Step) → (touches_doc st ≡ None) ⊎ (touches st ≡ None)
 one-kind (step.ReadDoc d) = inl refl

@@ -1,9 +1,9 @@
 -- The step table as a relation: a step is refused and changes nothing, or it is done with the stamp c.
-use Rattle.std.proofs.Common.{◌≡◌, ℕ, Bool, true, false, cond, nat_eq, List, Option, Some, None, refl, arith}
-use Rattle.std.proofs.lemmas.Grind.{common_steps}
+use Rattle.std.proofs.Common.{◌≡◌, ℕ, Bool, true, false, cond, nat_eq, List, Option, Some, None, refl}
+use Rattle.std.proofs.lemmas.Bool.{eqb-true as same_true}
 use Rattle.cbt_base.specs.Keyed.{with_pair}
 use Rattle.cbt_json.specs.declared.value.Json.{Json}
-use Rattle.cbt_model.specs.Attributes.{no_attributes, kept_attributes}
+use Rattle.cbt_json.specs.Attributes.{no_attributes, kept_attributes}
 use Rattle.cbt_model.specs.History.{is_done}
 use Rattle.cbt_model.specs.Keys.{id_cmp, doc_at, entry_at}
 use Rattle.cbt_model.specs.Table.{Row, SetsDoc, SetsEntry, DropsEntry, SetsClients, refused, takes, row, read_doc_row, stage_row, publish_row, delete_row, unstick_row, read_entry_row, add_entry_row, decide_row, drop_entry_row, is_pending, may_drop, no_lists, without_gone}
@@ -43,9 +43,6 @@ pub data Does (s : State) (c : ℕ) : Step → Row → Type 0 where
   beats : (me expires n : ℕ) (gone : List ℕ)
       → Does s c (step.Beat me expires n gone)
       (takes c (SetsClients (without_gone me gone (with_pair id_cmp s.clients me (record { heartbeat = c; expires = expires; num_atrs = n })))))
-
-same_true : (m n : ℕ) → nat_eq m n ≡ true → m ≡ n
-same_true m n same = grind (arith, common_steps)
 
 pending_true : (state : EntryState) → is_pending state ≡ true → state ≡ Pending
 pending_true Pending is = refl

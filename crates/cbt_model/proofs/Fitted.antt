@@ -1,5 +1,6 @@
 -- What the table answers fits the step, and a state goes on having fit bodies.
 use Rattle.std.proofs.Common.{◌≡◌, ◌≢◌, ℕ, zero, suc, Bool, true, false, cond, ◌&&◌, nat_eq, nat_lt, ⊎_elim, List, [], ◌∷◌, Option, Some, None, refl, sym, ap, ◌∙◌, subst, arith, slice_get, Result, Ok, Err, IfOk, OnErr, IsTrue}
+use Rattle.std.proofs.lemmas.Bool.{eqb-true as same_true, and_parts, and_from}
 use Rattle.std.proofs.lemmas.Cmp.{tied_itself, nat_cmp_total}
 use Rattle.std.proofs.lemmas.Grind.{common_steps}
 use Rattle.std.specs.declared.cmp.Ordering.TheVariants.{Less, Equal}
@@ -41,9 +42,6 @@ all-along P Q (k ∷ ks) more all = (more k all.0, all-along P Q ks more all.1)
 
 below_true : (m n : ℕ) → nat_cmp m n ≡ Less → nat_lt m n ≡ true
 below_true m n less = grind (arith, common_steps)
-
-same_true : (m n : ℕ) → nat_eq m n ≡ true → m ≡ n
-same_true m n same = grind (arith, common_steps)
 
 -- keys that rise are ids that rise
 rise-from : {X : Type 0} (low : Option ℕ) (es : List (ℕ × X)) → AllByRecursion (λ id. is_above low id ≡ true) (keys_of es) → Rises id_cmp es → ids_rise_from low es ≡ true
@@ -173,24 +171,9 @@ fits-failed (step.ReadAtr r) = refl
 fits-failed step.ReadClients = refl
 fits-failed (step.Beat me expires n gone) = refl
 
-pub fits-outcome : (s : State) (e : Event) → IsOrdered s → HasFitBodies s → fits e.step (outcome s e).reply ≡ true
-fits-outcome s e ordered fit = go e.fate
-  where
-    go : (fate : Fate) → fits e.step (by_fate fate (row_at_event s e)).reply ≡ true
-    go Plain = fits-row s (clock_mutated s.last e.reading) e.step ordered fit
-    go Lost = fits-failed e.step
-    go Late = fits-failed e.step
-
-both_true : (a b : Bool) → (a && b) ≡ true → (a ≡ true) × (b ≡ true)
-both_true true b both = (refl, both)
-both_true false b both = absurd (cc)
-
-true_both : (a b : Bool) → a ≡ true → b ≡ true → (a && b) ≡ true
-true_both a b first second = ap (λ x. x && b) first ∙ second
-
 module _ (s : State) (fit : HasFitBodies s) where
   body_fit : (d : List ℕ) (x : DocState) → doc_at s d ≡ Some x → body_fits_maybe x.body ≡ true
-  body_fit d x at = (both_true (body_fits_maybe x.body) (stage_fits_maybe x.stage) (fit.each d x at)).0
+  body_fit d x at = (and_parts (body_fits_maybe x.body) (stage_fits_maybe x.stage) (fit.each d x at)).0
 
   -- a document that fits was set
   fit-set : (last : ℕ) (d : List ℕ) (x : DocState) → doc_fits x ≡ true → HasFitBodies (record s { last = last; docs = with_pair doc_cmp s.docs d x })
@@ -207,10 +190,10 @@ module _ (s : State) (fit : HasFitBodies s) where
   fit-does : (c r : ℕ) {st : Step} {it : Row} → Does s c st it → step_fits st ≡ true → HasFitBodies (changed s r it.change)
   fit-does c r (refuses st reply not_done) carries = record { each = fit.each }
   fit-does c r (stages_new d stage at) carries = fit-set _ d _ carries
-  fit-does c r (stages_over d x stage old at same) carries = fit-set _ d _ (true_both (body_fits_maybe old.body) (stage_fits stage) (body_fit d old at) carries)
-  fit-does c r (publishes d x body old at same) carries = fit-set _ d _ (true_both _ true carries refl)
+  fit-does c r (stages_over d x stage old at same) carries = fit-set _ d _ (and_from (body_fits_maybe old.body) (stage_fits stage) (body_fit d old at) carries)
+  fit-does c r (publishes d x body old at same) carries = fit-set _ d _ (and_from _ true carries refl)
   fit-does c r (deletes d x old at same) carries = fit-set _ d _ refl
-  fit-does c r (unsticks d x old at same) carries = fit-set _ d _ (true_both (body_fits_maybe old.body) true (body_fit d old at) refl)
+  fit-does c r (unsticks d x old at same) carries = fit-set _ d _ (and_from (body_fits_maybe old.body) true (body_fit d old at) refl)
   fit-does c r (adds ar a exp at) carries = record { each = fit.each }
   fit-does c r (commits ar a lists old at pending) carries = record { each = fit.each }
   fit-does c r (aborts ar a lists old at pending) carries = record { each = fit.each }

@@ -5,7 +5,6 @@ pub mod Terms
 pub mod Does
 pub mod Ordered
 pub mod Fitted
-pub mod KeptMembers
 pub mod Moves
 pub mod FitBodies
 pub mod Answered

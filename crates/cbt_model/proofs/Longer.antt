@@ -1,5 +1,5 @@
 -- A history with more events: what stood below its end stays as it was, and what one event more adds.
-use Rattle.std.proofs.Common.{◌≡◌, ◌≢◌, ℕ, zero, suc, ◌+◌, ◌<◌, ◌≤◌, Bool, true, false, cond, nat_eq, if◌then◌else◌, ◌⊎◌, inl, inr, ⊎_elim, List, [], ◌∷◌, ◌++◌, length, Option, Some, None, refl, sym, ap, ◌∙◌, arith, slice_get}
+use Rattle.std.proofs.Common.{◌≡◌, ◌≢◌, ℕ, zero, suc, ◌+◌, ◌<◌, ◌≤◌, Bool, true, false, cond, nat_eq, ◌⊎◌, inl, inr, ⊎_elim, List, [], ◌∷◌, ◌++◌, length, Option, Some, None, refl, sym, ap, ◌∙◌, arith, slice_get, if◌then◌else◌}
 use Rattle.std.proofs.lemmas.Grind.{common_steps}
 use Rattle.std.specs.Option.{option_map}
 use Rattle.cbt_base.specs.Clock.{ms_of}
@@ -44,14 +44,6 @@ module _ (s0 : State) (h more : List Event) where
   after-longer (suc i) low =
       ap (λ s. happens_maybe s (slice_get (h ++ more) i)) (after-longer i (omega arith))
       ∙ ap (λ e. happens_maybe (after s0 h i) e) (get-longer h more i (omega arith))
-
-  pub reply_at-longer : (i : ℕ) → i < length h → reply_at s0 (h ++ more) i ≡ reply_at s0 h i
-  reply_at-longer i low =
-      ap (λ s. option_map (λ e. (outcome s e).reply) (slice_get (h ++ more) i)) (after-longer i (omega arith))
-      ∙ ap (λ o. option_map (λ e. (outcome (after s0 h i) e).reply) o) (get-longer h more i low)
-
-  pub now_at-longer : (i : ℕ) → i < length h → now_at s0 (h ++ more) i ≡ now_at s0 h i
-  now_at-longer i low = ap (λ s. ms_of s.last) (after-longer (suc i) (omega arith))
 
   -- the answer to an event, by the states before and after it
   abbrev made_between : ℕ → Event → State → State → Made
@@ -107,9 +99,6 @@ module _ (s0 : State) (h : List Event) (e : Event) where
   reply_at-next =
       ap (λ s. option_map (λ x. (outcome s x).reply) (slice_get (h ++ e ∷ []) (length h))) (after-longer s0 h (e ∷ []) (length h) (omega arith))
       ∙ ap (λ o. option_map (λ x. (outcome (after s0 h (length h)) x).reply) o) (get-last h e)
-
-  pub now_at-next : now_at s0 (h ++ e ∷ []) (length h) ≡ ms_of (happens (after s0 h (length h)) e).last
-  now_at-next = ap (λ s. ms_of s.last) after-next
 
   own-whole : (actor : ℕ) → own s0 (h ++ e ∷ []) actor (length (h ++ e ∷ [])) ≡ own_more s0 (h ++ e ∷ []) actor (length h) (Some e) (own s0 h actor (length h))
   own-whole actor =

@@ -4,7 +4,7 @@ use Rattle.std.proofs.Common.{◌≡◌, ◌≢◌, ℕ, Bool, true, false, ⊎_
 use Rattle.std.specs.Ordering.{is_eq}
 use Rattle.cbt_base.specs.Clock.{clock_mutated}
 use Rattle.cbt_json.specs.declared.value.Json.{Json}
-use Rattle.cbt_model.specs.Attributes.{no_attributes, kept_attributes}
+use Rattle.cbt_json.specs.Attributes.{no_attributes, kept_attributes}
 use Rattle.cbt_model.specs.History.{is_done}
 use Rattle.cbt_model.specs.Keys.{IsOrdered, doc_cmp, entry_cmp, doc_at, entry_at}
 use Rattle.cbt_model.specs.Table.{Row, Nothing, SetsDoc, SetsEntry, DropsEntry, changed, row, may_drop, no_lists, touches, touches_doc}

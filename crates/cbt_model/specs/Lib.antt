@@ -1,4 +1,3 @@
-pub mod Attributes
 pub mod Bodies
 pub mod Faults
 pub mod Fitting

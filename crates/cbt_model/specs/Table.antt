@@ -4,7 +4,7 @@ use Rattle.std.specs.List.{filter_map}
 use Rattle.cbt_base.specs.Clock.{clock_read, clock_mutated}
 use Rattle.cbt_base.specs.Keyed.{with_pair, without_key}
 use Rattle.cbt_json.specs.declared.value.Json.{Json}
-use Rattle.cbt_model.specs.Attributes.{no_attributes, kept_attributes}
+use Rattle.cbt_json.specs.Attributes.{no_attributes, kept_attributes}
 use Rattle.cbt_model.specs.Keys.{doc_cmp, entry_cmp, id_cmp, doc_at, entry_at}
 use Rattle.cbt_model.specs.declared.documents.DocState.{DocState}
 use Rattle.cbt_model.specs.declared.documents.Stage.{Stage}

@@ -32,6 +32,8 @@ pub fn steps_change_one_key()
         → touches_doc step ≢ Some doc → doc_at (apply_to s r step).0 doc ≡ doc_at s doc }
     ensures entries { (s : State) (r : ℕ) (step : Step) (key : ℕ × ℕ)
         → IsOrdered s → touches step ≢ Some key → entry_at (apply_to s r step).0 key ≡ entry_at s key }
+    ensures rows { (s : State) (r : ℕ) (step : Step)
+        → (touches_doc step ≢ None) ⊎ (touches step ≢ None) → (apply_to s r step).0.clients ≡ s.clients }
     ensures either { (step : Step) → (touches_doc step ≡ None) ⊎ (touches step ≡ None) }
 {}
 

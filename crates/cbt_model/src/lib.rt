@@ -3,7 +3,6 @@
 #![tactic(auto)]
 
 mod actors;
-mod attributes;
 mod documents;
 mod entries;
 mod events;

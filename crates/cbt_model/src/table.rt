@@ -6,7 +6,6 @@ ghost use Rattle.cbt_model.specs.Fitting.{fits, step_fits, HasFitBodies};
 ghost use Rattle.cbt_model.specs.Keys.{IsOrdered, doc_at, entry_at, id_cmp};
 ghost use Rattle.cbt_model.specs.Table.{SetsDoc, SetsEntry, DropsEntry, SetsClients, refused, takes, made, apply_to, read_doc_row, stage_row, publish_row, delete_row, unstick_row, read_entry_row, add_entry_row, decide_row, drop_entry_row, entries_of, without_gone};
 
-use crate::attributes::{kept_attributes, no_attributes};
 use crate::documents::{DocState, Stage};
 use crate::entries::{ClientRow, Entry, EntryState, Lists};
 use crate::states::State;
@@ -227,7 +226,7 @@ fn stage_new(
     let set = DocState {
         cas: next_cas(state, reading),
         body: None,
-        attrs: no_attributes(alloc),
+        attrs: Json::empty_object(alloc),
         stage: Some(stage.copy(alloc)?),
     };
     set_doc(alloc, state, reading, doc, set)
@@ -324,7 +323,7 @@ fn delete(
                 let set = DocState {
                     cas: next_cas(state, reading),
                     body: None,
-                    attrs: kept_attributes(alloc, &there.attrs)?,
+                    attrs: there.attrs.kept_attributes(alloc)?,
                     stage: None,
                 };
                 return set_doc(alloc, state, reading, doc, set);

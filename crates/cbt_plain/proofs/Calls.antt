@@ -1,5 +1,6 @@
 -- What a call, a mark and a beginning leave of the facts that a node keeps.
-use Rattle.std.proofs.Common.{◌≡◌, ◌≢◌, ℕ, suc, ◌+◌, ◌-◌, ◌^◌, ◌<◌, ◌≤◌, Bool, true, false, cond, nat_eq, nat_le, if◌then◌else◌, List, [], ◌∷◌, ◌++◌, length, Option, Some, None, refl, sym, ap, ◌∙◌, subst, arith, slice_get}
+use Rattle.std.proofs.Common.{◌≡◌, ◌≢◌, ℕ, suc, ◌+◌, ◌-◌, ◌^◌, ◌<◌, ◌≤◌, Bool, true, false, cond, nat_eq, nat_le, List, [], ◌∷◌, ◌++◌, length, Option, Some, None, refl, sym, ap, ◌∙◌, subst, arith, slice_get, if◌then◌else◌}
+use Rattle.std.proofs.lemmas.Bool.{eqb-true, le-leb}
 use Rattle.std.proofs.lemmas.Grind.{common_steps}
 use Rattle.cbt_base.specs.Clock.{clock_of, held, ReadsNext}
 use Rattle.cbt_model.specs.Faults.{fate_of}
@@ -34,9 +35,6 @@ last-there h h' e place grown at = ap (λ l. slice_get l place) grown ∙ ap (λ
 pub last-is : (h h' : List Event) (e x : Event) (place : ℕ) → h' ≡ h ++ e ∷ [] → place ≡ length h → slice_get h' place ≡ Some x → x ≡ e
 last-is h h' e x place grown at there = let both : Some x ≡ Some e = sym there ∙ last-there h h' e place grown at in cc
 
-eq-true : (m n : ℕ) → nat_eq m n ≡ true → m ≡ n
-eq-true m n t = grind (arith, common_steps)
-
 eq-same : (m n : ℕ) → n ≡ m → nat_eq m n ≡ true
 eq-same m n e = grind (arith, common_steps)
 
@@ -55,7 +53,7 @@ counted-next calls mid calls' h h' e number grown before is same own others a = 
 
     choice : (b : Bool) → nat_eq e.actor a ≡ b → count_of calls' a ≡ calls_below h' a (length h')
     choice true t =
-        let here : e.actor ≡ a = eq-true e.actor a t in
+        let here : e.actor ≡ a = eqb-true e.actor a t in
         let one : one_of a (Some e) ≡ 1 = ap (λ b. cond b 1 0) t in
         let left : count_of calls' a ≡ number = ap (λ x. count_of calls' x) (sym here) ∙ own in
         let old : count_of calls e.actor ≡ calls_below h a (length h) = before e.actor ∙ ap (λ x. calls_below h x (length h)) here in
@@ -81,12 +79,9 @@ kept-next terms h h' marks e grown before fate fit reading =
     let one : calls_below h e.actor (length h) + 1 ≡ suc (calls_below h e.actor (length h)) = omega arith in
     subst (λ x. KeepsTerms terms x marks) (sym grown) (keeps-next terms h marks e before (fate ∙ ap (λ n. fate_of terms.faults e.actor n) one) fit reading)
 
-le-true : (m n : ℕ) → m ≤ n → nat_le m n ≡ true
-le-true m n low = grind (arith, common_steps)
-
 -- the marks at a place at or behind a new one
 pub ahead_at-more : (marks : List Mark) (m : Mark) (i : ℕ) → m.place ≤ i → ahead_at (marks ++ m ∷ []) i ≡ ahead_at marks i + m.ms
-ahead_at-more [] m i low = ap (λ b. cond b m.ms 0 + 0) (le-true m.place i low) ∙ sums m.ms
+ahead_at-more [] m i low = ap (λ b. cond b m.ms 0 + 0) (le-leb m.place i low) ∙ sums m.ms
   where
     sums : (n : ℕ) → n + 0 ≡ 0 + n
     sums n = omega arith

@@ -2,7 +2,7 @@
 use Rattle.std.specs.Prelude.{◌≡◌, ℕ, pos, List, [], ◌∷◌, Option, Some, None}
 use Rattle.cbt_json.specs.declared.tree.Tree.TheVariants as tree
 use Rattle.cbt_json.specs.declared.tree.Tree.{Tree}
-use Rattle.cbt_model.specs.Attributes.{no_attributes}
+use Rattle.cbt_json.specs.Attributes.{no_attributes}
 use Rattle.cbt_model.specs.History.{after}
 use Rattle.cbt_model.specs.View.{view}
 use Rattle.cbt_model.specs.declared.documents.DocState.{DocState}

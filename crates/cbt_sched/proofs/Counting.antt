@@ -1,12 +1,10 @@
 -- How many calls of a list are an actor's.
 use Rattle.std.proofs.Common.{◌≡◌, ◌≢◌, ℕ, ◌+◌, ◌*◌, ◌<◌, ◌≤◌, ◌⊎◌, inl, inr, Bool, true, false, cond, nat_eq, nat_lt, List, ◌++◌, refl, sym, ap, ◌∙◌, arith, replicate}
+use Rattle.std.proofs.lemmas.Bool.{eqb-true}
 use Rattle.std.proofs.lemmas.Grind.{common_steps}
 use Rattle.std.proofs.lemmas.List.Sums.{sum_by-append}
 use Rattle.std.proofs.lemmas.List.Folds.{sum_by-replicate}
 use Rattle.cbt_sched.specs.Turns.{calls_of}
-
-pub eq-true : (m n : ℕ) → nat_eq m n ≡ true → m ≡ n
-eq-true m n t = grind (arith, common_steps)
 
 pub eq-same : (n : ℕ) → nat_eq n n ≡ true
 eq-same n = grind (arith, common_steps)
@@ -25,7 +23,7 @@ pub same_or_apart : (m n : ℕ) → (m ≡ n) ⊎ (m ≢ n)
 same_or_apart m n = choice (nat_eq m n) refl
   where
     choice : (b : Bool) → nat_eq m n ≡ b → (m ≡ n) ⊎ (m ≢ n)
-    choice true t = inl (eq-true m n t)
+    choice true t = inl (eqb-true m n t)
     choice false f = inr (λ same. let clash : true ≡ false = sym (eq-same n) ∙ ap (λ x. nat_eq x n) (sym same) ∙ f in cc)
 
 -- the actor's own calls count

@@ -8,6 +8,7 @@ use Rattle.std.specs.Cmp.Lexicographic.{nat_list_cmp_total}
 use Rattle.std.proofs.lemmas.Bool.{and_parts, and_from}
 use Rattle.std.proofs.lemmas.Bool.Decides.{nat_tests}
 use Rattle.serde_json.specs.Data.{Data}
+use Rattle.cbt_json.proofs.Proper.{less as less_is}
 use Rattle.cbt_json.specs.declared.tree.Tree.{Tree, out-Tree, map-Tree}
 use Rattle.cbt_json.specs.declared.tree.Tree.TheOpen.{Tree-F}
 use Rattle.cbt_json.specs.declared.tree.Tree.TheVariants as tree
@@ -140,11 +141,6 @@ rise_with : (name : List ℕ) (v : Tree) (ms : Members) → Rise ms → Rise (wi
 rise_with name v [] rise = refl
 rise_with name v (m ∷ ms) rise =
     rise_with_by name v m ms (name_cmp name m.0) refl rise (rise_with name v ms (and_parts (rises_from m.0 (members_data ms)) (names_rise (members_data ms)) rise).1)
-
-pub less_is : (o : Ordering) → is_lt o ≡ true → o ≡ Less
-less_is Less is = refl
-less_is Equal is = absurd (cc)
-less_is Greater is = absurd (cc)
 
 -- what follows a name that rises follows an earlier one
 pub further : (low next : List ℕ) (ms : Members) → is_lt (name_cmp low next) ≡ true → rises_from next (members_data ms) ≡ true → rises_from low (members_data ms) ≡ true

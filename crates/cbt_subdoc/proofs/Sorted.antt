@@ -11,7 +11,8 @@ use Rattle.cbt_json.specs.Rules.{IsJson, rises_from, names_rise, is_regular, mem
 use Rattle.cbt_json.specs.Trees.{members_data}
 use Rattle.cbt_json.proofs.Views.{data_of-Object}
 use Rattle.cbt_subdoc.specs.Members.{Members, name_cmp, member, without_member, IsKeyed}
-use Rattle.cbt_subdoc.proofs.Keeps.{less_is, further}
+use Rattle.cbt_json.proofs.Proper.{less as less_is}
+use Rattle.cbt_subdoc.proofs.Keeps.{further}
 
 abbrev Rise : Members → Type 0
 Rise ms = names_rise (members_data ms) ≡ true

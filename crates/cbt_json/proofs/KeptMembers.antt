@@ -1,17 +1,19 @@
 -- An object with some of its members keeps the rules of a JSON value.
-use Rattle.std.proofs.Common.{◌≡◌, ℕ, ◌≤◌, max, Bool, true, false, cond, ◌&&◌, List, [], ◌∷◌, Option, Some, None, IfNone, IsSome, IsTrue, refl, sym, ap, ◌∙◌, subst, arith}
+use Rattle.std.proofs.Common.{◌≡◌, ℕ, ◌≤◌, max, Bool, true, false, cond, List, [], ◌∷◌, Option, Some, None, IfNone, IsSome, IsTrue, refl, sym, ap, subst, arith}
+use Rattle.std.proofs.lemmas.Bool.{and_parts, and_from}
 use Rattle.std.specs.declared.cmp.Ordering.{Ordering}
-use Rattle.std.specs.declared.cmp.Ordering.TheVariants.{Less, Equal, Greater}
+use Rattle.std.specs.declared.cmp.Ordering.TheVariants.{Less}
 use Rattle.std.specs.Cmp.Lexicographic.{slice_cmp, nat_list_cmp_total}
 use Rattle.std.specs.List.{AllByRecursion}
 use Rattle.std.specs.Ordering.{nat_cmp, is_lt}
 use Rattle.serde_json.specs.Data.{Data, object, depth, members_depth}
+use Rattle.cbt_json.proofs.Proper.{less as less_is}
 use Rattle.cbt_json.proofs.Views.{data_of-Object}
 use Rattle.cbt_json.specs.Rules.{IsJson, max_levels, rises_from, names_rise, members_are_regular, is_regular}
 use Rattle.cbt_json.specs.Trees.{data_of, members_data}
 use Rattle.cbt_json.specs.declared.tree.Tree.{Tree}
 use Rattle.cbt_json.specs.declared.tree.Tree.TheVariants as tree
-use Rattle.cbt_model.specs.Attributes.{kept_members, begins_with_underscore}
+use Rattle.cbt_json.specs.Attributes.{kept_members, begins_with_underscore}
 
 abbrev Members : Type 0
 Members = List (List ℕ × Tree)
@@ -19,18 +21,6 @@ Members = List (List ℕ × Tree)
 -- all names stand after this one
 abbrev AllAbove : List ℕ → Members → Type 0
 AllAbove name ms = AllByRecursion (λ (m : List ℕ × Tree). slice_cmp nat_cmp name m.0 ≡ Less) ms
-
-both_true : (a b : Bool) → (a && b) ≡ true → (a ≡ true) × (b ≡ true)
-both_true true b both = (refl, both)
-both_true false b both = absurd (cc)
-
-true_both : (a b : Bool) → a ≡ true → b ≡ true → (a && b) ≡ true
-true_both a b first second = ap (λ x. x && b) first ∙ second
-
-less_true : (o : Ordering) → is_lt o ≡ true → o ≡ Less
-less_true Less is = refl
-less_true Equal is = absurd (cc)
-less_true Greater is = absurd (cc)
 
 further : (name next : List ℕ) (ms : Members) → slice_cmp nat_cmp name next ≡ Less → AllAbove next ms → AllAbove name ms
 further name next [] less all = tt
@@ -40,8 +30,8 @@ further name next (m ∷ ms) less all = (nat_list_cmp_total.trans name next m.0 
 above-all : (name : List ℕ) (ms : Members) → rises_from name (members_data ms) ≡ true → names_rise (members_data ms) ≡ true → AllAbove name ms
 above-all name [] first rise = tt
 above-all name (m ∷ ms) first rise =
-    let less : slice_cmp nat_cmp name m.0 ≡ Less = less_true (slice_cmp nat_cmp name m.0) first in
-    let parts = both_true (rises_from m.0 (members_data ms)) (names_rise (members_data ms)) rise in
+    let less : slice_cmp nat_cmp name m.0 ≡ Less = less_is (slice_cmp nat_cmp name m.0) first in
+    let parts = and_parts (rises_from m.0 (members_data ms)) (names_rise (members_data ms)) rise in
     (less, further name m.0 ms less (above-all m.0 ms parts.0 parts.1))
 
 above-kept : (name : List ℕ) (ms : Members) → AllAbove name ms → rises_from name (members_data (kept_members ms)) ≡ true
@@ -57,10 +47,10 @@ kept-rise [] rise = refl
 kept-rise (m ∷ ms) rise = go (begins_with_underscore m.0) (kept-rise ms parts.1)
   where
     parts : (rises_from m.0 (members_data ms) ≡ true) × (names_rise (members_data ms) ≡ true)
-    parts = both_true (rises_from m.0 (members_data ms)) (names_rise (members_data ms)) rise
+    parts = and_parts (rises_from m.0 (members_data ms)) (names_rise (members_data ms)) rise
 
     go : (b : Bool) → names_rise (members_data (kept_members ms)) ≡ true → names_rise (members_data (cond b (m ∷ kept_members ms) (kept_members ms))) ≡ true
-    go true tail = true_both _ _ (above-kept m.0 ms (above-all m.0 ms parts.0 parts.1)) tail
+    go true tail = and_from _ _ (above-kept m.0 ms (above-all m.0 ms parts.0 parts.1)) tail
     go false tail = tail
 
 kept-regular : (ms : Members) → members_are_regular (members_data ms) ≡ true → members_are_regular (members_data (kept_members ms)) ≡ true
@@ -68,11 +58,11 @@ kept-regular [] regular = refl
 kept-regular (m ∷ ms) regular = go (begins_with_underscore m.0) (kept-regular ms parts.1)
   where
     parts : (is_regular (data_of m.1) ≡ true) × (members_are_regular (members_data ms) ≡ true)
-    parts = both_true (is_regular (data_of m.1)) (members_are_regular (members_data ms)) regular
+    parts = and_parts (is_regular (data_of m.1)) (members_are_regular (members_data ms)) regular
 
     go : (b : Bool) → members_are_regular (members_data (kept_members ms)) ≡ true
         → members_are_regular (members_data (cond b (m ∷ kept_members ms) (kept_members ms))) ≡ true
-    go true tail = true_both _ _ parts.0 tail
+    go true tail = and_from _ _ parts.0 tail
     go false tail = tail
 
 kept-depth : (ms : Members) → members_depth (members_data (kept_members ms)) ≤ members_depth (members_data ms)
@@ -90,9 +80,9 @@ IsJsonData d = (depth d ≤ max_levels) × IsTrue (is_regular d)
 
 kept-data : (ms : Members) → IsJsonData (object (members_data ms)) → IsJsonData (object (members_data (kept_members ms)))
 kept-data ms is =
-    let parts = both_true (names_rise (members_data ms)) (members_are_regular (members_data ms)) is.1 in
+    let parts = and_parts (names_rise (members_data ms)) (members_are_regular (members_data ms)) is.1 in
     let low : members_depth (members_data (kept_members ms)) ≤ members_depth (members_data ms) = kept-depth ms in
-    (omega (arith, is.0), true_both _ _ (kept-rise ms parts.0) (kept-regular ms parts.1))
+    (omega (arith, is.0), and_from _ _ (kept-rise ms parts.0) (kept-regular ms parts.1))
 
 IsJson-kept : (ms : Members) → IsJson (tree.Object ms) → IsJson (tree.Object (kept_members ms))
 IsJson-kept ms is = subst IsJsonData (sym (data_of-Object (kept_members ms))) (kept-data ms (subst IsJsonData (data_of-Object ms) is))

@@ -1,6 +1,6 @@
 use Rattle.std.proofs.Common.{◌≡◌, ◌++◌, drop}
-use Rattle.cbt_model.specs.Attributes.{kept_members}
-use Rattle.cbt_model.proofs.attributes.kept_members.Given as goal
+use Rattle.cbt_json.specs.Attributes.{kept_members}
+use Rattle.cbt_json.proofs.attributes.kept_members.Given as goal
 
 -- what was kept and what is left to look at make the whole
 abbrev pub invariant-loop-name : goal.invariant-loop-name

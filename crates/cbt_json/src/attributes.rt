@@ -1,23 +1,25 @@
 //! Attribute objects of documents.
 ghost use Rattle.std.specs.Prelude.{◌≡◌, IfOk};
-ghost use Rattle.cbt_json.specs.Rules.{IsJson};
-ghost use Rattle.cbt_doc.specs.Attributes.{begins_with_underscore, kept_attributes, kept_members};
+ghost use Rattle.cbt_json.specs.Attributes.{begins_with_underscore, kept_attributes, kept_members};
 
+use crate::tree::Tree;
+use crate::value::Json;
 use cbt_base::{Duplicate, List, NoMemory, Text};
-use cbt_json::{Json, Tree};
 use std::alloc::Global;
 
-/// The attributes that a deletion keeps: those whose names begin with `_`.
-pub(crate) fn kept_attributes(alloc: Global, attrs: Tree) -> Result<Json, NoMemory>
-    requires { IsJson attrs }
-    ensures { IfOk result (λ kept. kept ≡ kept_attributes attrs) }
-{
-    match &attrs {
-        Tree::Object(members) => {
-            let kept = kept_members(alloc, members.as_slice())?;
-            Ok(Json::of(Tree::Object(kept)).unwrap())
+impl Json {
+    /// The attributes that the deletion of a document keeps: the members whose names begin with `_`. A
+    /// value that is no object is kept as it is.
+    pub fn kept_attributes(&self, alloc: Global) -> Result<Json, NoMemory>
+        ensures { IfOk result (λ kept. kept ≡ kept_attributes self.now) }
+    {
+        match self.tree() {
+            Tree::Object(members) => {
+                let kept = kept_members(alloc, members.as_slice())?;
+                Ok(Json::of(Tree::Object(kept)).unwrap())
+            }
+            _ => self.copy(alloc),
         }
-        _ => Ok(Json::of(attrs).unwrap()),
     }
 }
 
