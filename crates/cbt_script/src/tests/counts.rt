@@ -6,11 +6,22 @@ use cbt_base::{NoMemory, Text};
 use std::alloc::Global;
 use std::test::Fail;
 
+// As many documents as a script may have.
+fn most_documents(alloc: Global) -> Result<Text, NoMemory> {
+    let mut text = Text::from_str(alloc, "")?;
+    push_numbered(&mut text, "doc d", 65_536, " {}\n")?;
+    Ok(text)
+}
+
 #[test]
 fn documents(rt: HostRuntime) -> Result<(), Fail> {
-    let mut text = Text::from_str(rt.alloc(), "")?;
-    push_numbered(&mut text, "doc d", 65_536, " {}\n")?;
-    assert_at_limit(&rt, rt.alloc(), &text, "doc d0 {}", 65_537, Cause::Limit)?;
+    let text = most_documents(rt.alloc())?;
+    assert_at_limit(&rt, rt.alloc(), &text, "doc d0 {}", 65_537, Cause::Limit)
+}
+
+#[test]
+fn a_document_past_their_limit_that_is_there_already(rt: HostRuntime) -> Result<(), Fail> {
+    let text = most_documents(rt.alloc())?;
     assert_at_limit(&rt, rt.alloc(), &text, "doc d1 {}", 65_537, Cause::Twice)
 }
 
