@@ -1,6 +1,6 @@
 -- The text of a JSON value reads as it.
 use Rattle.std.proofs.Common.{◌≡◌, ℕ, pos, negsuc, suc, ◌<◌, ◌≤◌, ◌^◌, max, List, [], true, Some, option_map, option_and_then, Ordering, Less, Greater, refl, sym, ap, ap₂, ◌∙◌, subst, arith, append-nil, ltb}
-use Rattle.std.proofs.lemmas.Bool.{and_parts}
+use Rattle.std.proofs.lemmas.Bool.{and_parts, ltb-true}
 use Rattle.std.proofs.lemmas.Bool.Decides.{nat_tests}
 use Rattle.std.proofs.lemmas.Cmp.{nat_list_cmp_total}
 use Rattle.std.specs.Ordering.{nat_cmp, match_ordering, ordering_reverse, is_lt}
@@ -47,13 +47,10 @@ number_read (negative (pos n)) h = absurd (cc)
 number_read (negative (negsuc n)) h = number_of-negative n (grind (arith, nat_tests))
 number_read (float x) h = absurd (cc)
 
-below_of : (n k : ℕ) → ltb n (2 ^ k) ≡ true → n < 2 ^ k
-below_of n k h = grind (arith, nat_tests)
-
 number_written : (n : Num) → is_whole n ≡ true → IsNumber (number_text n)
-number_written (unsigned n) h = IsNumber-decimal_wide n (omega (arith, below_of n 64 h))
+number_written (unsigned n) h = IsNumber-decimal_wide n (omega (arith, ltb-true n (2 ^ 64) h))
 number_written (negative (pos n)) h = absurd (cc)
-number_written (negative (negsuc n)) h = IsNumber-negative_wide (suc n) (omega (arith, below_of n 63 h))
+number_written (negative (negsuc n)) h = IsNumber-negative_wide (suc n) (omega (arith, ltb-true n (2 ^ 63) h))
 number_written (float x) h = absurd (cc)
 
 mutual

@@ -1,6 +1,6 @@
 -- The test of `specs/Same.antt` holds exactly where two trees are the same.
 use Rattle.std.proofs.Common.{◌≡◌, ℕ, suc, ◌==◌, Bool, true, false, ◌&&◌, ◌||◌, List, [], ◌∷◌, length, refl, sym, ap, ap₂, ◌∙◌, subst, eqb-true, eq-eqb}
-use Rattle.std.proofs.lemmas.Bool.{and_parts, and_from}
+use Rattle.std.proofs.lemmas.Bool.{and_parts, and_from, or_parts}
 use Rattle.std.specs.Prelude.{IsTrue}
 use Rattle.std.specs.Bool.{Decides}
 use Rattle.std.specs.Cmp.{signed_Decides, booleans_Decides}
@@ -71,10 +71,6 @@ mutual
       ap₂ (λ n d. member n d xs) name (data_same x y q.0) ∙ ap (member l y) (members_same xs ys q.1)
   members_same _ _ h = absurd (cc)
 
-neither : (a b : Bool) → (a || b) ≡ false → (a ≡ false) × (b ≡ false)
-neither true b e = absurd (cc)
-neither false b e = (refl, e)
-
 number_tied : (n : Num) → is_float n ≡ false → num_eq n n ≡ true
 number_tied (unsigned n) h = eq-eqb n n refl
 number_tied (negative z) h = (signed_Decides z z).1 refl
@@ -91,12 +87,12 @@ mutual
 
   items_tied : (ds : Items) → items_have_float ds ≡ false → items_eq ds ds ≡ true
   items_tied no_items h = refl
-  items_tied (item d ds) h = let p = neither (has_float d) (items_have_float ds) h in and_from _ _ (data_tied d p.0) (items_tied ds p.1)
+  items_tied (item d ds) h = let p = or_parts (has_float d) (items_have_float ds) h in and_from _ _ (data_tied d p.0) (items_tied ds p.1)
 
   members_tied : (ms : Members) → members_have_float ms ≡ false → members_eq ms ms ≡ true
   members_tied no_members h = refl
   members_tied (member k d ms) h =
-      let p = neither (has_float d) (members_have_float ms) h in
+      let p = or_parts (has_float d) (members_have_float ms) h in
       and_from _ _ ((bytes_decides k k).1 refl) (and_from _ _ (data_tied d p.0) (members_tied ms p.1))
 
 pub tree_eq-Decides : (x y : Tree) → Decides (tree_eq x y) (x ≡ y)

@@ -1,6 +1,6 @@
 -- What is read and holds no float keeps the rules: its whole numbers are in the range, and names rise.
 use Rattle.std.proofs.Common.{◌≡◌, ℕ, zero, suc, ◌^◌, List, Bool, true, false, ◌&&◌, ◌||◌, Option, Some, None, option_map, option_and_then, Ordering, Less, Equal, Greater, refl, ap, ◌∙◌, subst, arith, drop, ltb, leb, cond, ◌==◌}
-use Rattle.std.proofs.lemmas.Bool.{and_parts, and_from}
+use Rattle.std.proofs.lemmas.Bool.{and_parts, and_from, or_parts}
 use Rattle.std.proofs.lemmas.Bool.Decides.{nat_tests}
 use Rattle.std.proofs.lemmas.Cmp.{nat_list_cmp_total}
 use Rattle.std.specs.Prelude.{⊤, slice_index}
@@ -27,10 +27,6 @@ Holds-map P Q h k (Some a) x = k a x
 Holds-and_then : {A B : Type 0} (P : A → Type 0) (Q : B → Type 0) (h : A → Option B) → ((a : A) → P a → Holds Q (h a)) → (o : Option A) → Holds P o → Holds Q (option_and_then h o)
 Holds-and_then P Q h k None x = tt
 Holds-and_then P Q h k (Some a) x = k a x
-
-neither : (a b : Bool) → (a || b) ≡ false → (a ≡ false) × (b ≡ false)
-neither true b e = absurd (cc)
-neither false b e = (refl, e)
 
 -- ---- numbers
 
@@ -82,7 +78,7 @@ ProperMembers ms = (names_rise ms ≡ true) × EachProper ms
 
 each_regular : (ms : Members) → EachProper ms → members_have_float ms ≡ false → members_are_regular ms ≡ true
 each_regular no_members h e = refl
-each_regular (member k d ms) h e = let f = neither (has_float d) (members_have_float ms) e in and_from _ _ (h.0 f.0) (each_regular ms h.1 f.1)
+each_regular (member k d ms) h e = let f = or_parts (has_float d) (members_have_float ms) e in and_from _ _ (h.0 f.0) (each_regular ms h.1 f.1)
 
 each-match_ordering : (o : Ordering) (a b c : Members) → EachProper a → EachProper b → EachProper c → EachProper (match_ordering o a b c)
 each-match_ordering Less a b c p q r = p
@@ -133,7 +129,7 @@ mutual
   proper-of_items : (js : json.Items) → Holds ProperItems (of_items js)
   proper-of_items json.no_items = λ e. refl
   proper-of_items (json.item j js) =
-      Holds-and_then Proper ProperItems _ (λ d p. Holds-map ProperItems ProperItems (item d) (λ ds q e. let f = neither (has_float d) (items_have_float ds) e in and_from _ _ (p f.0) (q f.1)) _ (proper-of_items js)) _ (proper-of_json j)
+      Holds-and_then Proper ProperItems _ (λ d p. Holds-map ProperItems ProperItems (item d) (λ ds q e. let f = or_parts (has_float d) (items_have_float ds) e in and_from _ _ (p f.0) (q f.1)) _ (proper-of_items js)) _ (proper-of_json j)
 
   proper-of_members : (ms : json.Members) (found : Members) → ProperMembers found → Holds ProperMembers (of_members ms found)
   proper-of_members json.no_members found h = h

@@ -18,9 +18,6 @@ by_data tree d is few rule = subst (λ x. (depth x ≤ max_levels) × (is_regula
 pub null-is_json : IsJson t.Null
 null-is_json = by_data t.Null _ data_of-Null (omega arith) refl
 
-pub bool-is_json : (b : Bool) → IsJson (t.Bool b)
-bool-is_json b = by_data (t.Bool b) _ (data_of-Bool b) (omega arith) refl
-
 pub text-is_json : (s : List ℕ) → IsJson (t.Text s)
 text-is_json s = by_data (t.Text s) _ (data_of-Text s) (omega arith) refl
 
