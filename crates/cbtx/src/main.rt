@@ -16,6 +16,7 @@ mod tests;
 mod words;
 
 use cbt_base::{List, NoMemory, StdSink, StdSource, Text};
+use std::io::ErrorKind;
 use std::process::ExitCode;
 use std::rt::Env;
 use std::{env, io};
@@ -36,13 +37,17 @@ fn main(rt: HostRuntime) -> ExitCode {
     ExitCode::from(ran.status)
 }
 
-// The words after the program's name; none where they are no text.
+// The words after the program's name; none where one of them is no text.
 fn words_of<R: Env + AllocGlobal>(rt: &R) -> Result<List<Text>, NoMemory> {
     let mut words = List::new(rt.alloc());
-    if let Ok(args) = env::args(rt) {
-        for word in args.skip(1) {
-            words.push(Text::from_string(word))?;
+    match env::args(rt) {
+        Ok(args) => {
+            for word in args.skip(1) {
+                words.push(Text::from_string(word))?;
+            }
         }
+        Err(error) if error.kind() == ErrorKind::OutOfMemory => return Err(NoMemory),
+        Err(_) => {}
     }
     Ok(words)
 }
