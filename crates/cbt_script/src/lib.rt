@@ -15,8 +15,6 @@ mod printing;
 mod reading;
 mod script;
 mod settings;
-#[cfg(test)]
-mod tests;
 
 pub use cause::{Bad, Cause, ScriptFault};
 pub use laws::{scripts_keep_rules, text_reads_back, written_text_reads_back};

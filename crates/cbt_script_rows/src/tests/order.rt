@@ -2,8 +2,8 @@
 //! field the first of the stated order. A limit is the line's own and comes last.
 
 use super::{assert_line_refused, assert_refused, push_numbered};
-use crate::Cause;
 use cbt_base::Text;
+use cbt_script::Cause;
 use std::test::Fail;
 
 #[test]

@@ -5,9 +5,9 @@ mod ranges;
 mod refusals;
 mod words;
 
-use crate::{Bad, Cause, Script, ScriptFault};
 use cbt_base::{NoMemory, Text};
 use cbt_lex::push_number;
+use cbt_script::{Bad, Cause, Script, ScriptFault};
 use std::alloc::Global;
 use std::process::Abort;
 use std::test::Fail;

@@ -1,8 +1,8 @@
 //! Counts and sums at their limits and one past them.
 
 use super::{assert_at_limit, fault_of, push_numbered, push_times};
-use crate::{Cause, Script};
 use cbt_base::{NoMemory, Text};
+use cbt_script::{Cause, Script};
 use std::alloc::Global;
 use std::test::Fail;
 

@@ -1,7 +1,7 @@
 //! Each cause of a refused line, field by field.
 
 use super::{assert_line_refused, assert_line_taken, assert_refused, assert_taken};
-use crate::Cause;
+use cbt_script::Cause;
 use std::test::Fail;
 
 // Two lines of an open transaction, whose first get has bound `x`.

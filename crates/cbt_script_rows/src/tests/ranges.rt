@@ -4,8 +4,8 @@ use super::{
     assert_line_refused, assert_line_taken, assert_refused, assert_taken, fault_of, joined,
     push_times, refused, times,
 };
-use crate::Cause;
 use cbt_base::{NoMemory, Text};
+use cbt_script::Cause;
 use std::alloc::Global;
 use std::process::Abort;
 use std::test::Fail;

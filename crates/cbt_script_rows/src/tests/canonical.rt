@@ -1,7 +1,7 @@
 //! Canonical texts, and the words of causes.
 
-use crate::{Bad, Cause, Script, ScriptFault};
 use cbt_base::Text;
+use cbt_script::{Bad, Cause, Script, ScriptFault};
 use std::alloc::Global;
 use std::process::Abort;
 use std::test::Fail;

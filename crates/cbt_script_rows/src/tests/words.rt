@@ -1,7 +1,7 @@
 //! Lines and their first words: bytes, blanks, comments, line ends, and which line may stand where.
 
 use super::{assert_refused, assert_taken, fault_of, refused};
-use crate::Cause;
+use cbt_script::Cause;
 
 #[test]
 fn lines_that_say_nothing(rt: HostRuntime) {
