@@ -4,5 +4,3 @@ pub mod Lent
 pub mod MapLent
 pub mod Ids
 pub mod Clock
-pub mod Causes
-pub mod Streams

@@ -1,5 +1,5 @@
 //! What every layer stands on: lists, maps and texts that contracts see as plain data, identifiers,
-//! the clock rule, and the program's traits of the outside world.
+//! the clock rule and clocks.
 #![tactic(auto)]
 
 mod clock;
@@ -9,9 +9,6 @@ mod laws;
 mod list;
 mod map;
 mod memory;
-mod sink;
-mod source;
-mod streams;
 mod text;
 
 pub use clock::{
@@ -24,10 +21,4 @@ pub use laws::{get_after_insert, get_after_remove, id_texts_differ, identifiers_
 pub use list::List;
 pub use map::Map;
 pub use memory::{Duplicate, NoMemory};
-pub use sink::{MemSink, Sink, StdSink, WriteFailed};
-pub use source::{MemSource, ReadFailed, Source, StdSource};
-pub use streams::{ReadFault, read_all, rose_is_larger_or_at_the_end, write_all};
 pub use text::Text;
-
-#[cfg(test)]
-mod tests;

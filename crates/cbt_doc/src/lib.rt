@@ -8,6 +8,3 @@ mod refusals;
 
 pub use calls::{change_doc, look_doc};
 pub use docs::{BodyChange, Doc, DocCall, DocExpect, DocFault, DocMut};
-
-#[cfg(test)]
-mod tests;

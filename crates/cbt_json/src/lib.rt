@@ -10,8 +10,6 @@ mod printing;
 mod reading;
 mod rules;
 mod same;
-#[cfg(test)]
-mod tests;
 mod tree;
 mod value;
 

@@ -4,8 +4,6 @@
 mod decimals;
 mod lines;
 mod names;
-#[cfg(test)]
-mod tests;
 mod words;
 
 pub use decimals::{number, push_number};

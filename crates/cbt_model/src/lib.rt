@@ -27,6 +27,3 @@ pub use states::State;
 pub use steps::{Expect, Reply, Step};
 pub use table::apply;
 pub use views::{expired, view};
-
-#[cfg(test)]
-mod tests;

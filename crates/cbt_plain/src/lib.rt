@@ -7,8 +7,3 @@ mod plain;
 mod readings;
 
 pub use plain::Plain;
-
-#[cfg(test)]
-mod stager;
-#[cfg(test)]
-mod tests;

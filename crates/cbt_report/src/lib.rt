@@ -5,7 +5,5 @@ mod lines;
 mod outcomes;
 mod replay;
 mod report;
-#[cfg(test)]
-mod tests;
 
 pub use report::report_of;

@@ -2,4 +2,3 @@ pub mod Driving
 pub mod Positions
 pub mod Stopping
 pub mod Turns
-pub mod Written

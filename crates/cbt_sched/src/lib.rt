@@ -9,10 +9,3 @@ mod stops;
 mod visits;
 
 pub use driver::drive_in_order;
-
-#[cfg(test)]
-mod refusing;
-#[cfg(test)]
-mod tests;
-#[cfg(test)]
-mod workers;

@@ -133,9 +133,13 @@ impl Clients {
     {
         let tried = self.tried.saturating_add(u64::from(tries));
         if self.ops.len() >= MAX_OPS || tried > MAX_TRIED {
+            drop(op);
             return Err(LineFault::Refused(Cause::Limit));
         }
-        bind(alloc, &mut self.bound, &op)?;
+        if let Err(refused) = bind(alloc, &mut self.bound, &op) {
+            drop(op);
+            return Err(LineFault::from(refused));
+        }
         self.ops.push(op)?;
         self.tried = tried;
         Ok(())

@@ -42,10 +42,14 @@ impl Documents {
     {
         let (id, rest) = id(alloc, rest)?;
         require(!self.ids.contains_key(&id), Cause::Twice)?;
+        let key = id.copy(alloc)?;
         let body = body(alloc, rest)?;
-        require(self.docs.len() < MAX_DOCS, Cause::Limit)?;
-        self.ids.insert(id.copy(alloc)?, ())?;
+        if self.docs.len() >= MAX_DOCS {
+            drop(body);
+            return Err(LineFault::Refused(Cause::Limit));
+        }
         self.docs.push((id, body, Json::empty_object(alloc)))?;
+        self.ids.insert(key, ())?;
         self.follows = true;
         Ok(())
     }
@@ -57,8 +61,10 @@ impl Documents {
     {
         let (id, rest) = id(alloc, rest)?;
         let attrs = body(alloc, rest)?;
-        require(are_attributes(attrs.tree()), Cause::Attrs)?;
-        require(self.follows, Cause::Attrs)?;
+        if !(are_attributes(attrs.tree()) && self.follows) {
+            drop(attrs);
+            return Err(LineFault::Refused(Cause::Attrs));
+        }
         set_last_attrs(&mut self.docs, &id, attrs)?;
         self.follows = false;
         Ok(())

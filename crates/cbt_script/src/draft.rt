@@ -2,7 +2,7 @@
 
 ghost use Rattle.std.specs.Prelude.{◌≡◌, IfOk};
 ghost use Rattle.cbt_script.specs.Causes.{Steps};
-ghost use Rattle.cbt_script.specs.Drafts.{start, group_number, stands_inside, enter, take_keyword, setting_line, doc_line, attrs_line, client_line, begin_line, operation_line, end_line, cleaner_line, stop_line, fault_line, order_line, sweep_line, atrs_of, expiry_of, tries_of, lapse_of, script_from};
+ghost use Rattle.cbt_script.specs.Drafts.{start, group_number, stands_inside, enter, take_keyword, take_line, setting_line, doc_line, attrs_line, client_line, begin_line, operation_line, end_line, cleaner_line, stop_line, fault_line, order_line, sweep_line, atrs_of, expiry_of, tries_of, lapse_of, script_from};
 
 use crate::cause::{Cause, LineFault};
 use crate::clients::Clients;
@@ -78,6 +78,13 @@ impl Draft {
         if stands_inside(keyword) != self.clients.is_inside() {
             return Err(LineFault::Refused(Cause::Word));
         }
+        self.take_line(alloc, keyword, rest)
+    }
+
+    // Takes a line that may stand here.
+    fn take_line(&mut self, alloc: Global, keyword: Keyword, rest: &str) -> Result<(), LineFault>
+        ensures { Steps result self.new (take_line keyword self.old rest.now) }
+    {
         match keyword {
             Keyword::Setting(setting) => self.take_setting(setting, rest),
             Keyword::Doc => self.take_doc(alloc, rest),

@@ -88,6 +88,7 @@ fn finish(alloc: Global, draft: Draft, line: u64) -> Result<Script, ScriptFault>
     ensures answer { (result ≡ finished line draft) ⊎ (result ≡ Err ScriptFault.NoMemory) }
 {
     if draft.clients.is_inside() {
+        drop(draft);
         return Err(ScriptFault::Bad(Bad {
             line,
             why: Cause::Unended,

@@ -1,5 +1,5 @@
 ghost use Rattle.std.specs.Prelude.{◌≡◌, IfOk};
-ghost use Rattle.cbt_script.specs.Opening.{opening_of};
+ghost use Rattle.cbt_script.specs.Opening.{opening_of, first_state};
 
 use cbt_base::{DocId, Duplicate, List, Map, NoMemory, Text};
 use cbt_expr::ClientPlan;
@@ -45,15 +45,8 @@ impl Script {
         let mut cas: u64 = 0;
         for (id, body, attrs) in self.docs.as_slice() {
             cas += 1;
-            let body = body.copy(alloc)?;
-            let attrs = attrs.copy(alloc)?;
-            let doc = DocState {
-                cas,
-                body: Some(body),
-                attrs,
-                stage: None,
-            };
-            docs.insert(id.copy(alloc)?, doc)?;
+            let id = id.copy(alloc)?;
+            docs.insert(id, first_state(alloc, cas, body, attrs)?)?;
         }
         Ok(State {
             last: cas,
@@ -62,4 +55,18 @@ impl Script {
             clients: Map::new(alloc),
         })
     }
+}
+
+// A document that nobody has written yet.
+fn first_state(alloc: Global, cas: u64, body: &Json, attrs: &Json) -> Result<DocState, NoMemory>
+    ensures { IfOk result (λ doc. doc ≡ first_state cas body.now attrs.now) }
+{
+    let body = body.copy(alloc)?;
+    let attrs = attrs.copy(alloc)?;
+    Ok(DocState {
+        cas,
+        body: Some(body),
+        attrs,
+        stage: None,
+    })
 }

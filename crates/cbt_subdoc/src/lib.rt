@@ -18,6 +18,3 @@ pub use laws::{bad_byte_is_first, names_are_keys, set_value_is_found, what_is_wr
 pub use looks::{Look, LookAnswer, lookup};
 pub use path::{Part, Path, PathFault};
 pub use values::macro_text;
-
-#[cfg(test)]
-mod tests;

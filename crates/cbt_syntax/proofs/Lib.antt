@@ -6,8 +6,10 @@ pub mod Ranges
 pub mod Turns
 pub mod Doubled
 pub mod Joins
+pub mod Named
 pub mod Ends
 pub mod StringsBack
+pub mod Verbatim
 pub mod NumbersBack
 pub mod NamesBack
 pub mod Shapes

@@ -6,7 +6,7 @@ use Rattle.cbt_json.specs.declared.tree.Tree.TheVariants as t
 use Rattle.cbt_json.specs.Rules.{IsJson, is_in_range, is_whole, is_regular, max_levels}
 use Rattle.serde_json.specs.Data.{Data, depth}
 use Rattle.cbt_json.specs.Trees.{data_of, number_of_whole}
-use Rattle.cbt_json.proofs.Views.{data_of-Null, data_of-Bool, data_of-Whole, data_of-Text}
+use Rattle.cbt_json.proofs.Views.{data_of-Null, data_of-Whole, data_of-Text}
 use Rattle.cbt_lex.specs.Decimals.{is_digit}
 use Rattle.cbt_syntax.specs.declared.fault.SyntaxFault.TheVariants.{NotWhole}
 use Rattle.cbt_syntax.specs.Readings.{Read, ◌>>=◌}

@@ -4,6 +4,7 @@ pub mod Strings
 pub mod Numbers
 pub mod References
 pub mod Terms
+pub mod Named
 pub mod Bound
 pub mod Conditions
 pub mod Whole

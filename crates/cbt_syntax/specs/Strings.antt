@@ -1,5 +1,5 @@
 -- JSON strings at the front of a text.
-use Rattle.std.specs.Prelude.{ℕ, ◌+◌, Bool, false, not, ◌==◌, ◌&&◌, if◌then◌else◌, List, [], ◌∷◌, take, drop, Option, Some, None, Result, Ok, Err}
+use Rattle.std.specs.Prelude.{ℕ, ◌+◌, Bool, false, not, ◌==◌, ◌&&◌, nat_le, if◌then◌else◌, List, [], ◌∷◌, take, drop, Option, Some, None, Result, Ok, Err}
 use Rattle.cbt_json.specs.declared.fault.JsonFault.{JsonFault}
 use Rattle.cbt_json.specs.declared.tree.Tree.{Tree, out-Tree}
 use Rattle.cbt_json.specs.declared.tree.Tree.TheOpen.{Tree-F}
@@ -34,6 +34,10 @@ literal len text = do
 abbrev pub closed_at : Option ℕ → List ℕ → Read (List ℕ)
 closed_at None text = Err Malformed
 closed_at (Some at) text = literal (at + 2) text
+
+-- whether a byte between quotes stands for itself
+abbrev pub is_verbatim : ℕ → Bool
+is_verbatim b = nat_le 32 b && (not (b == 34) && not (b == 92))
 
 -- the JSON string at the front
 unfoldable pub string_at : List ℕ → Read (List ℕ)

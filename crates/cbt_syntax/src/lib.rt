@@ -4,6 +4,7 @@
 mod conditions;
 mod fault;
 mod laws;
+mod members;
 mod numbers;
 mod paths;
 mod pieces;

@@ -1,20 +1,21 @@
 //! Terms and expressions at the front of a text.
-ghost use Rattle.std.specs.Prelude.{◌≡◌, ◌<◌, [], length, Some, None, Ok, Err, MatchOption, IfOk};
+ghost use Rattle.std.specs.Prelude.{◌≡◌, ◌<◌, [], length, Some, None, Ok, Err, MatchOption};
 ghost use Rattle.cbt_syntax.specs.Readings.{Reads};
 ghost use Rattle.cbt_syntax.specs.References.{name_at};
 ghost use Rattle.cbt_syntax.specs.Bound.{is_taken};
+ghost use Rattle.cbt_syntax.specs.Named.{by_name};
 ghost use Rattle.cbt_syntax.specs.Terms as spec;
 
 use crate::fault::SyntaxFault;
+use crate::members::by_name;
 use crate::pieces::behind_first;
 use crate::references::{name_len, path};
 use crate::scalars::plain;
 use crate::strings::string;
-use cbt_base::{List, Map, NoMemory, Text};
+use cbt_base::{List, Map, Text};
 use cbt_expr::{Expr, Sign, Term};
 use cbt_lex::{is_a_name, past_spaces};
 use std::alloc::Global;
-use std::collections::BTreeMap;
 
 /// What a reading goes by.
 #[derive(Drop)]
@@ -143,8 +144,8 @@ impl<V> Reader<'_, V> {
         let mut rest = text;
         for _turn in 0..text.len() {
             let (item, behind) = self.expr(rest, levels)?;
-            let (more, behind) = after_item(behind, b']')?;
             found.push(item)?;
+            let (more, behind) = after_item(behind, b']')?;
             if !more {
                 return Ok((found, behind));
             }
@@ -167,26 +168,27 @@ impl<V> Reader<'_, V> {
             )),
             _ => {
                 let (members, rest) = self.members(text, levels)?;
-                Ok((Term::Members(in_order(self.alloc, members)?), rest))
+                Ok((Term::Members(by_name(self.alloc, members)?), rest))
             }
         }
     }
 
+    // The members in the order of the text.
     #[tactic(auto, unfolding(crate::specs::Terms::members_from))]
     #[cycle(terms)]
     fn members<'t>(
         &self,
         text: &'t str,
         levels: u32,
-    ) -> Result<(BTreeMap<Text, Expr>, &'t str), SyntaxFault>
-        ensures { Reads (λ x. (x.0.entries, x.1.now)) result (spec.members_from (spec.expr_at (is_taken self.now.every self.now.bound.now) levels) (length text.now) [] text.now) }
+    ) -> Result<(List<(Text, Expr)>, &'t str), SyntaxFault>
+        ensures { Reads (λ x. (by_name x.0, x.1.now)) result (spec.members_from (spec.expr_at (is_taken self.now.every self.now.bound.now) levels) (length text.now) [] text.now) }
     {
-        let mut found = BTreeMap::new(self.alloc);
+        let mut found = List::new(self.alloc);
         let mut rest = text;
         for _turn in 0..text.len() {
-            let ((name, value), behind) = self.member(rest, levels)?;
+            let (member, behind) = self.member(rest, levels)?;
+            found.push(member)?;
             let (more, behind) = after_item(behind, b'}')?;
-            found.insert(name, value)?;
             if !more {
                 return Ok((found, behind));
             }
@@ -206,17 +208,6 @@ impl<V> Reader<'_, V> {
         let (value, rest) = self.expr(rest, levels)?;
         Ok(((name, value), rest))
     }
-}
-
-// The members of an object, which rise by their names.
-fn in_order(alloc: Global, members: BTreeMap<Text, Expr>) -> Result<List<(Text, Expr)>, NoMemory>
-    ensures { IfOk result (λ list. list ≡ members.entries) }
-{
-    let mut list = List::new(alloc);
-    for member in members {
-        list.push(member)?;
-    }
-    Ok(list)
 }
 
 // What stands behind a byte, which has to be there, and the spaces that follow it.

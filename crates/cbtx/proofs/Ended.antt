@@ -1,6 +1,6 @@
 -- How a run of the program ended.
 use Rattle.std.proofs.Common.{◌≡◌, ℕ, ◌⊎◌, ⊎_elim, true, List, Option, Some, None, is_some, Result, Ok, Err, refl, sym, ap, ◌∙◌, subst}
-use Rattle.cbt_base.specs.Streams.{ReadWhole}
+use Rattle.cbt_streams.specs.Streams.{ReadWhole}
 use Rattle.cbt_book.specs.declared.book.Book.{Book}
 use Rattle.cbt_report.specs.Report.{report_text}
 use Rattle.cbt_script.specs.Reading.{script_of}

@@ -1,8 +1,8 @@
 -- How a run ends, by its status.
 use Rattle.std.specs.Prelude.{◌≡◌, ℕ, Bool, true, false, ◌⊎◌, List, ◌++◌, Option, Some, None, Ok, Err, codes, decimal}
 use Rattle.std.specs.Io.KnownBytes.{Appends}
-use Rattle.cbt_base.specs.Causes.{Rose}
-use Rattle.cbt_base.specs.Streams.{ReadWhole, WrotePart}
+use Rattle.cbt_streams.specs.Causes.{Rose}
+use Rattle.cbt_streams.specs.Streams.{ReadWhole, WrotePart}
 use Rattle.cbt_book.specs.declared.book.Book.{Book}
 use Rattle.cbt_report.specs.Report.{report_text}
 use Rattle.cbt_script.specs.declared.script.Script.{Script}

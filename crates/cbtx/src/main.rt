@@ -2,8 +2,6 @@
 //! what happened.
 #![tactic(auto)]
 
-#[cfg(test)]
-mod copies;
 mod lists;
 mod one_replace;
 mod replace;
@@ -15,7 +13,8 @@ mod system_clock;
 mod tests;
 mod words;
 
-use cbt_base::{List, NoMemory, StdSink, StdSource, Text};
+use cbt_base::{List, NoMemory, Text};
+use cbt_streams::{StdSink, StdSource};
 use std::io::ErrorKind;
 use std::process::ExitCode;
 use std::rt::Env;

@@ -2,12 +2,12 @@
 
 ghost use Rattle.std.specs.Prelude.{◌≡◌, ◌<◌, ◌⊎◌, false, true, None, is_some, IfOk};
 ghost use Rattle.std.specs.Io.KnownBytes.{Appends, Keeps};
-ghost use Rattle.cbt_base.specs.Causes.{Rose};
+ghost use Rattle.cbt_streams.specs.Causes.{Rose};
 ghost use Rattle.cbt_core.specs.Laws.{NeverBoth, CommitsOnce};
 ghost use Rattle.cbt_report.specs.Report.{report_text};
 ghost use Rattle.cbt_script.specs.Opening.{opening_of};
 ghost use Rattle.cbtx.specs.Headline.{IsInTurn, IsLegalFor, IsRunOf, HasCommitted, ShowsTable, WhereRan};
-ghost use Rattle.cbt_base.specs.Streams.{ReadPast, ReadUpTo};
+ghost use Rattle.cbt_streams.specs.Streams.{ReadPast, ReadUpTo};
 ghost use Rattle.cbtx.specs.OneReplace.{Runs};
 ghost use Rattle.cbtx.specs.Statuses.{IsCut, IsCutOff, IsRefused, IsReported, IsScriptRead, IsWritten, bad_line, max_input, not_built_line, usage_line};
 ghost use Rattle.cbtx.specs.Words.{is_sim};
@@ -15,12 +15,13 @@ ghost use Rattle.cbtx.specs.Words.{is_sim};
 use crate::one_replace::one_replace;
 use crate::simulation::simulate;
 use crate::words::{USAGE, is_sim};
-use cbt_base::{Clock, Map, NoMemory, ReadFault, Sink, Source, Text, read_all, write_all};
+use cbt_base::{Clock, Map, NoMemory, Text};
 use cbt_book::Book;
 use cbt_expr::{EvalFault, eval};
 use cbt_lex::push_number;
 use cbt_report::report_of;
 use cbt_script::{Bad, Script, ScriptFault};
+use cbt_streams::{ReadFault, Sink, Source, read_all, write_all};
 use std::alloc::Global;
 
 /// The most bytes that an input has.

@@ -1,8 +1,9 @@
-//! The program over streams in memory.
+//! What no case of `scripts/` shows: the events of a run, and streams that fail.
 
 use crate::still::{Ran, still};
-use cbt_base::{List, MemSink, MemSource, NoMemory, StepClock, Text};
+use cbt_base::{List, NoMemory, StepClock, Text};
 use cbt_model::{Event, Fate, Step};
+use cbt_streams::{MemSink, MemSource};
 use std::alloc::Global;
 use std::test::Fail;
 
@@ -11,9 +12,6 @@ const ONE_REPLACE: &[u8] =
 
 const REPORT: &[u8] =
     b"history 6\ncommitted 1\ntxn c1 1 committed\ndoc a {\"n\":2}\nstaged 0\ndead 0\nentries 0\n";
-
-const USAGE: &[u8] =
-    b"usage: cbtx sim [--history] | run [--history] | gen --seed N [--clients N] [--accounts N] [--transfers N] [--sim]\n";
 
 // What a run left, and what it wrote.
 #[derive(Drop)]
@@ -81,90 +79,6 @@ fn one_replace(rt: HostRuntime) -> Result<(), Fail> {
         assert!(rt; is_in_place(place, event), "at {place}");
     }
     assert_eq!(rt; book.clients.len(), 1);
-    Ok(())
-}
-
-// Whether an input is refused with this line.
-fn is_refused(alloc: Global, input: &[u8], line: &[u8]) -> Result<bool, NoMemory> {
-    let seen = run(alloc, &["sim"], input, &[], &[])?;
-    Ok(seen.ran.status == 1 && seen.written.as_slice() == line && seen.ran.book.is_none())
-}
-
-#[test]
-fn bad_lines_are_named(rt: HostRuntime) -> Result<(), Fail> {
-    let inputs: [(&[u8], &[u8]); 8] = [
-        (b"doc a {\"n\":1.5}", b"script refused: line 1: NotWhole\n"),
-        (
-            b"clock 1000 1\ndoc a {\"n\":1}\nclient c1\nbegin\n",
-            b"script refused: line 5: Unended\n",
-        ),
-        (
-            b"doc a {}\nclient c1\nbegin\nreplace a {\"n\":@x.n}\ncommit\n",
-            b"script refused: line 4: Unbound\n",
-        ),
-        (
-            b"\n# none\nstop q 1\n",
-            b"script refused: line 3: Unknown\n",
-        ),
-        (b"doc _txn:a {}\n", b"script refused: line 1: Id\n"),
-        (b"atrs 0\n", b"script refused: line 1: Number\n"),
-        (
-            b"atrs 2\ncleaner k1 65536\n",
-            b"script refused: line 2: Limit\n",
-        ),
-        (b"clock 01000 1\n", b"script refused: line 1: Number\n"),
-    ];
-    for (input, line) in inputs {
-        assert!(rt; is_refused(rt.alloc(), input, line)?, "{line:?}");
-    }
-    Ok(())
-}
-
-#[test]
-fn other_scripts_are_not_built(rt: HostRuntime) -> Result<(), Fail> {
-    let inputs: [&[u8]; 5] = [
-        b"",
-        b"# only a comment\n",
-        b"clock 1000 3000\ndoc a {}\nclient c1\nbegin\nreplace a {}\ncommit\n",
-        b"clock 1000 1\ndoc a {}\nclient c1\nbegin\nreplace a {\"n\":1-\"x\"}\ncommit\n",
-        b"clock 1000 1\ndoc a {}\nclient c1\nbegin\nreplace a {}\ncommit\nsweep 5\n",
-    ];
-    for input in inputs {
-        assert!(rt; is_refused(rt.alloc(), input, b"script refused: NotBuilt\n")?);
-    }
-    Ok(())
-}
-
-#[test]
-fn settings_and_expressions_run(rt: HostRuntime) -> Result<(), Fail> {
-    let script =
-        b"atrs 1\nexpiry 600\nclock 1000 1\ndoc a {\"n\":1}\nattrs a {\"_k\":1}\nclient c1\nbegin tries 2\nreplace a {\"n\":1+1}\ncommit\n";
-    let seen = run(rt.alloc(), &["sim"], script, &[], &[])?;
-    assert_eq!(rt; seen.ran.status, 0);
-    assert_eq!(rt; seen.written.as_slice(), REPORT);
-    Ok(())
-}
-
-#[test]
-fn input_limit(rt: HostRuntime) -> Result<(), Fail> {
-    let mut input = vec![in rt.alloc(); b'#'; 4_194_304]?;
-    let seen = run(rt.alloc(), &["sim"], &input, &[], &[])?;
-    assert_eq!(rt; seen.ran.status, 1);
-    input.push(b'#')?;
-    let seen = run(rt.alloc(), &["sim"], &input, &[], &[])?;
-    assert_eq!(rt; seen.ran.status, 6);
-    assert_eq!(rt; seen.written.len(), 0);
-    Ok(())
-}
-
-#[test]
-fn other_words_are_usage(rt: HostRuntime) -> Result<(), Fail> {
-    let words: [&[&str]; 4] = [&[], &["run"], &["sim", "--history"], &["--help"]];
-    for words in words {
-        let seen = run(rt.alloc(), words, ONE_REPLACE, &[], &[])?;
-        assert_eq!(rt; seen.ran.status, 2);
-        assert_eq!(rt; seen.written.as_slice(), USAGE);
-    }
     Ok(())
 }
 

@@ -2,6 +2,7 @@ use Rattle.std.proofs.Common.{◌≡◌, ◌+◌, ◌-◌, ◌*◌, length, []}
 use denote.Text.{Utf8}
 use denote.Shadow.{shadow}
 use Rattle.cbt_syntax.specs.Bound.{is_taken}
+use Rattle.cbt_syntax.specs.Named.{by_name}
 use Rattle.cbt_syntax.specs.Terms.{term_at, expr_at, items_from, members_from, joined_from}
 use Rattle.cbt_syntax.proofs.terms.Reader.+terms.Given as goal
 
@@ -39,7 +40,7 @@ invariant-items-loop-turn g l =
 abbrev pub invariant-members-loop-turn : goal.invariant-members-loop-turn
 invariant-members-loop-turn g l =
     let expr = expr_at (is_taken l.self.every l.self.bound.now) l.levels in
-    shadow (Utf8 l.rest) × (members_from expr (length l.fn.text) [] l.fn.text ≡ members_from expr (l._turn-end - l._turn) l.found.entries l.rest)
+    shadow (Utf8 l.rest) × (members_from expr (length l.fn.text) [] l.fn.text ≡ members_from expr (l._turn-end - l._turn) (by_name l.found) l.rest)
 
 abbrev pub invariant-joined-loop-turn : goal.invariant-joined-loop-turn
 invariant-joined-loop-turn g l =

@@ -1,3 +1,0 @@
-mod changes;
-mod looks;
-mod paths;
