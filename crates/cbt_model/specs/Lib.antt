@@ -1,8 +1,10 @@
 pub mod Bodies
 pub mod Faults
 pub mod Fitting
+pub mod Fresh
 pub mod History
 pub mod Keys
 pub mod Legal
+pub mod Stops
 pub mod Table
 pub mod View
