@@ -1,16 +1,17 @@
 -- What it is that a cleaner's log follows its plan, by the cleaner's own list.
-use Rattle.std.specs.Prelude.{◌≡◌, ◌≢◌, ℕ, suc, ◌<◌, ◌≤◌, ◌⊎◌, Bool, true, false, List, [], ◌∷◌, ◌++◌, length, map, filter, take, Option, Some, None}
+use Rattle.std.specs.Prelude.{◌≡◌, ◌≢◌, ℕ, suc, ◌<◌, ◌≤◌, ◌⊎◌, Bool, true, false, List, [], ◌∷◌, ◌++◌, length, map, filter, take, drop, Option, Some, None}
 use Rattle.std.specs.List.{range_with_len}
 use Rattle.cbt_model.specs.declared.entries.ClientRow.{ClientRow}
 use Rattle.cbt_model.specs.declared.events.Made.{Made}
 use Rattle.cbt_model.specs.declared.steps.Reply.TheVariants as reply
 use Rattle.cbt_model.specs.declared.steps.Step.TheVariants as step
 use Rattle.cbt_book.specs.OwnLists.{Each, during}
-use Rattle.cbt_book.specs.Passes.{PassesFollow, passes_end}
+use Rattle.cbt_book.specs.Passes.{PassCalls, PassesFollow, EndsPass, passes_end}
 use Rattle.cbt_book.specs.Shares.{share_of, inactive, has_record}
 use Rattle.cbt_book.specs.Shown.{adds}
 use Rattle.cbt_book.specs.Spans.{IsSpan}
 use Rattle.cbt_book.specs.declared.cleaners.CleanerLog.{CleanerLog}
+use Rattle.cbt_book.specs.declared.cleaners.PassEnd.{PassEnd}
 use Rattle.cbt_book.specs.declared.cleaners.PassLog.{PassLog}
 use Rattle.cbt_book.specs.declared.cleaners.RoundLog.{RoundLog}
 use Rattle.cbt_book.specs.declared.cleaners.Share.{Share}
@@ -34,12 +35,19 @@ abbrev pub GoOver : Course → List ℕ → List PassLog → Type 0
 GoOver Whole records logs = map (λ log. log.atr) logs ≡ records
 GoOver Cut records logs = (left : List ℕ) × (map (λ log. log.atr) logs ++ left ≡ records)
 
+-- the calls of a round behind its last pass that is logged, before it came to these records: there are none, or the round was cut
+-- off, and they are of a pass over the next record, which has not ended
+pub data StandBehind (course : Course) (left : List ℕ) (calls : List Made) : Type 0 where
+  none : calls ≡ [] → StandBehind course left calls
+  unfinished : (r : ℕ) (more : List ℕ) (first : Made) (later : List Made) → course ≡ Cut → left ≡ r ∷ more → calls ≡ later ++ first ∷ [] → PassCalls r first later
+      → ((end : PassEnd) → ¬ EndsPass r first calls end) → StandBehind course left calls
+
 -- the passes of a round go over these records, and hold all its calls from `at` on, but for those of a pass that was cut off
 pub record PassesGo (l : List Made) (course : Course) (at : ℕ) (records : List ℕ) (log : RoundLog) : Type 0 where
   pub over : GoOver course records log.passes
   pub follow : PassesFollow l at log.passes
   pub inside : passes_end at log.passes ≤ log.span.to
-  pub all : course ≡ Whole → during (record { from = passes_end at log.passes; to = log.span.to }) l ≡ []
+  pub behind : StandBehind course (drop (length log.passes) records) (during (record { from = passes_end at log.passes; to = log.span.to }) l)
 
 -- the round read the client record and then wrote its row: it takes its share of the records by that reading
 pub record Shared (plan : CleanerPlan) (l : List Made) (course : Course) (log : RoundLog) : Type 0 where

@@ -139,6 +139,9 @@ pub data Clears (a : ℕ) (showing : Made) (d : List ℕ) (m : Made) (before : L
   absent : FindsNoDoc d m → Clears a showing d m before
   free : (x : ℕ) (body : Option Json) → ReadsDoc d x body None m → Clears a showing d m before
   of_another : (x : ℕ) (body : Option Json) (stage : Stage) → ReadsDoc d x body (Some stage) m → stage.attempt ≢ a → Clears a showing d m before
+  -- it is staged under another record than the one in which a is shown decided, which never comes
+  elsewhere : (r x : ℕ) (shown : Lists) (body : Option Json) (stage : Stage) → ShowsDecided r a shown showing → ReadsDoc d x body (Some stage) m → stage.atr ≢ r
+      → Clears a showing d m before
   -- it has another CAS than the one at which it was read staged by a, after the showing
   moved_on : (x have : ℕ) → Unstages d x m.step → m.answer.reply ≡ reply.CasMismatch have
       → Once (λ n earlier. (body : Option Json) × (stage : Stage) × ReadsDoc d x body (Some stage) n × (stage.attempt ≡ a) × In showing earlier) before

@@ -1,6 +1,6 @@
 -- Words on an actor's own list: the steps that it made with their answers, newest first. "Later" is nearer to the head. Each
 -- word sees a step together with what was made before it.
-use Rattle.std.specs.Prelude.{◌≡◌, ℕ, ◌⊎◌, Bool, ◌&&◌, nat_lt, nat_le, List, [], ◌∷◌, filter}
+use Rattle.std.specs.Prelude.{◌≡◌, ℕ, ◌<◌, ◌⊎◌, Bool, ◌&&◌, nat_lt, nat_le, List, [], ◌∷◌, filter}
 use Rattle.cbt_model.specs.declared.events.Made.{Made}
 use Rattle.cbt_book.specs.declared.operations.Span.{Span}
 
@@ -23,6 +23,11 @@ Each P (m ∷ past) = P m past × Each P past
 abbrev pub In : {X : Type 0} → X → List X → Type 0
 In x [] = ⊥
 In x (y ∷ ys) = (x ≡ y) ⊎ In x ys
+
+-- the places of the calls fall towards the end of the list, as those of an own list do
+abbrev pub Descends : List Made → Type 0
+Descends [] = Unit {0}
+Descends (m ∷ past) = ((n : Made) → In n past → n.answer.place < m.answer.place) × Descends past
 
 -- the place lies in the span
 abbrev pub is_within : Span → ℕ → Bool

@@ -1,12 +1,15 @@
 -- A cleaner's pass over one transaction record.
-use Rattle.std.specs.Prelude.{◌≡◌, ◌≢◌, ℕ, ◌+◌, ◌⊎◌, Bool, true, nat_lt, List, [], ◌∷◌, ◌++◌, map, filter}
+use Rattle.std.specs.Prelude.{◌≡◌, ◌≢◌, ℕ, ◌+◌, ◌*◌, ◌≤◌, ◌⊎◌, Bool, true, nat_lt, List, [], ◌∷◌, ◌++◌, length, map, filter}
+use Rattle.std.specs.List.{sum_by}
 use Rattle.cbt_base.specs.Clock.{ms_of}
 use Rattle.cbt_model.specs.History.{is_done}
 use Rattle.cbt_model.specs.declared.entries.Entry.{Entry}
 use Rattle.cbt_model.specs.declared.entries.EntryState.TheVariants.{Pending}
+use Rattle.cbt_model.specs.declared.entries.Lists.{Lists}
 use Rattle.cbt_model.specs.declared.events.Made.{Made}
 use Rattle.cbt_model.specs.declared.steps.Reply.{Reply}
 use Rattle.cbt_model.specs.declared.steps.Reply.TheVariants as reply
+use Rattle.cbt_model.specs.declared.steps.Step.{Step}
 use Rattle.cbt_model.specs.declared.steps.Step.TheVariants as step
 use Rattle.cbt_book.specs.OwnLists.{Once, Each, In, during}
 use Rattle.cbt_book.specs.Shown.{ReadsEntry, FindsNoEntry}
@@ -37,6 +40,32 @@ pub data Finishes (r a : ℕ) (calls : List Made) : Type 0 where
   pending : Once (λ m before. ((e : Entry) × ReadsEntry r a e m × (e.state ≡ Pending))
       × Once (λ n _. (n.step ≡ step.DropEntry r a true) × (n.answer.reply ≡ reply.Decided)) before) calls → Finishes r a calls
 
+-- what a pass over record r may call behind its reading of the record
+abbrev pub MayPass : ℕ → Step → Type 0
+MayPass r (step.ReadDoc d) = Unit {0}
+MayPass r (step.Publish d x body) = Unit {0}
+MayPass r (step.Delete d x) = Unit {0}
+MayPass r (step.Unstick d x) = Unit {0}
+MayPass r (step.ReadEntry q a) = q ≡ r
+MayPass r (step.DropEntry q a guarded) = q ≡ r
+MayPass r _ = ⊥
+
+-- the calls for the documents that lists name: a reading of each, and what takes the staging off
+abbrev pub calls_for : Lists → ℕ
+calls_for lists = 2 * (length lists.ins + length lists.rep + length lists.rem)
+
+-- how many calls follow from this answer at this time at most: three for each expired entry, and those for the documents listed
+abbrev pub calls_due : ℕ → Reply → ℕ
+calls_due now (reply.Entries entries) = sum_by (λ e. 3 + calls_for e.1.lists) (filter (λ e. is_expired now e.1) entries)
+calls_due now (reply.Entry e) = calls_for e.lists
+calls_due now _ = 0
+
+-- the calls of a pass over record r, whether or not it has ended: a reading of the record, and after it calls of a pass alone
+pub record PassCalls (r : ℕ) (first : Made) (later : List Made) : Type 0 where
+  pub reads : first.step ≡ step.ReadAtr r
+  pub only : Each (λ m _. MayPass r m.step) later
+  pub few : length later ≤ sum_by (λ m. calls_due m.answer.now m.answer.reply) (later ++ first ∷ [])
+
 -- a pass that ended Ok keeps the expired attempts of its first reading, each of which it has finished, and no call of it failed
 pub record PassKept (r : ℕ) (first : Made) (calls : List Made) (covered : List ℕ) : Type 0 where
   pub entries : List (ℕ × Entry)
@@ -50,13 +79,13 @@ abbrev pub EndsPass : ℕ → Made → List Made → PassEnd → Type 0
 EndsPass r first calls (pass_end.Ok covered) = PassKept r first calls covered
 EndsPass r first calls (pass_end.CallFailed place) = Once (λ m _. (m.answer.place ≡ place) × (m.answer.reply ≡ reply.Failed)) calls
 
--- a pass begins with a reading of its record
+-- the log of a pass
 pub record PassFollows (l : List Made) (at : ℕ) (log : PassLog) : Type 0 where
   pub spanned : IsSpan l at log.span
   pub first : Made
   pub later : List Made
   pub calls : during log.span l ≡ later ++ first ∷ []
-  pub reads : first.step ≡ step.ReadAtr log.atr
+  pub may : PassCalls log.atr first later
   pub ends : EndsPass log.atr first (during log.span l) log.end
 
 -- one past the last place of passes that begin at `at`

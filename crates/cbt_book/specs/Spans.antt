@@ -1,8 +1,23 @@
 -- The spans of operations, attempts, rounds and passes. `at` is one past the actor's last place before the part, or 0.
-use Rattle.std.specs.Prelude.{◌≡◌, ℕ, suc, ◌≤◌, List, []}
+use Rattle.std.specs.Prelude.{◌≡◌, ℕ, suc, ◌≤◌, List, [], ◌∷◌}
 use Rattle.cbt_model.specs.declared.events.Made.{Made}
 use Rattle.cbt_book.specs.OwnLists.{In, during}
 use Rattle.cbt_book.specs.declared.operations.Span.{Span}
+
+-- one past the newest place of an own list
+abbrev pub past_of : List Made → ℕ
+past_of [] = 0
+past_of (m ∷ past) = suc m.answer.place
+
+-- the oldest of these calls
+abbrev pub oldest : Made → List Made → Made
+oldest m [] = m
+oldest m (n ∷ past) = oldest n past
+
+-- the span of these calls, behind this place
+abbrev pub span_of : ℕ → List Made → Span
+span_of at [] = record { from = at; to = at }
+span_of at (m ∷ past) = record { from = (oldest m past).answer.place; to = suc m.answer.place }
 
 -- the ends of a span of calls
 pub data HasEnds (at : ℕ) (span : Span) (calls : List Made) : Type 0 where
