@@ -22,6 +22,7 @@ use Rattle.cbt_book.specs.Licence.{IsListed}
 use Rattle.cbt_book.specs.Numbers.{client_of, txn_of}
 use Rattle.cbt_book.specs.OwnLists.{In, during}
 use Rattle.cbt_book.specs.Shown.{ReadsDoc, FindsNoDoc, StagesAt, adds}
+use Rattle.cbt_book.specs.Outcomes.{is_refusal}
 use Rattle.cbt_book.specs.declared.book.Book.{Book}
 use Rattle.cbt_book.specs.declared.cleaners.CleanerLog.{CleanerLog}
 use Rattle.cbt_book.specs.declared.cleaners.PassEnd.TheVariants as pass_end
@@ -39,7 +40,6 @@ use Rattle.cbt_book.specs.declared.operations.Span.{Span}
 use Rattle.cbt_book.specs.declared.operations.When.TheVariants as when
 use Rattle.cbt_core.specs.Committed.{table_at}
 use Rattle.cbt_core.specs.Invariant.{DecidedAt}
-use Rattle.cbt_core.specs.OpAnswers.{is_refusal}
 use Rattle.cbt_core.specs.Right.{IsAnswer, doc_of}
 use Rattle.cbt_core.specs.Walk.{Sofar}
 use Rattle.cbt_core.specs.WriteSets.{numbered, txn_at, attempt_at, write_set}

@@ -12,3 +12,5 @@ pub mod Right
 pub mod Laws
 pub mod Invariant
 pub mod Openings
+pub mod Lawful
+pub mod Stops

@@ -1,22 +1,17 @@
 -- The answers that an operation can have, and what each stands on.
-use Rattle.std.specs.Prelude.{◌≡◌, ◌≢◌, ℕ, suc, ◌⊎◌, Bool, true, false, is_some, is_none, List, [], ◌∷◌, ◌++◌, length, Option, Some, None, Result, Ok, Err}
+use Rattle.std.specs.Prelude.{◌≡◌, ◌≢◌, ℕ, ◌⊎◌, Bool, true, false, is_some, is_none, List, [], ◌∷◌, Option, Some, None, Result, Ok, Err}
 use Rattle.cbt_json.specs.declared.value.Json.{Json}
-use Rattle.cbt_model.specs.History.{is_done}
 use Rattle.cbt_model.specs.declared.documents.OpKind.{OpKind}
 use Rattle.cbt_model.specs.declared.documents.OpKind.TheVariants.{Insert, Replace, Remove}
 use Rattle.cbt_model.specs.declared.documents.Stage.{Stage}
-use Rattle.cbt_model.specs.declared.entries.Entry.{Entry}
-use Rattle.cbt_model.specs.declared.entries.EntryState.TheVariants.{Committed}
 use Rattle.cbt_model.specs.declared.events.Made.{Made}
-use Rattle.cbt_model.specs.declared.steps.Expect.{Expect}
 use Rattle.cbt_model.specs.declared.steps.Expect.TheVariants as expect
-use Rattle.cbt_model.specs.declared.steps.Reply.{Reply}
-use Rattle.cbt_model.specs.declared.steps.Reply.TheVariants as reply
 use Rattle.cbt_model.specs.declared.steps.Step.{Step}
 use Rattle.cbt_model.specs.declared.steps.Step.TheVariants as step
-use Rattle.cbt_book.specs.OwnLists.{Once, Each, during}
+use Rattle.cbt_book.specs.Outcomes.{expected, DoneAt, EndsFailed, is_refusal, AskedFourTimes, IsContended}
+use Rattle.cbt_book.specs.OwnLists.{Once, during}
 use Rattle.cbt_book.specs.ReadAt.{Reading, IsReadAt}
-use Rattle.cbt_book.specs.Shown.{ReadsDoc, StagesAt, ReadsEntry, FindsNoEntry}
+use Rattle.cbt_book.specs.Shown.{StagesAt}
 use Rattle.cbt_book.specs.declared.operations.OpAnswer.{OpAnswer}
 use Rattle.cbt_book.specs.declared.operations.OpAnswer.TheVariants as answer
 use Rattle.cbt_book.specs.declared.operations.When.{When}
@@ -41,11 +36,6 @@ pub data StandsOn (l : List Made) (so : Sofar) (d : List ℕ) (kind : OpKind) (i
       → IsReadAt d it (during last.span l) → it.value ≡ last.value → it.moment ≡ last.moment → StandsOn l so d kind it calls
   -- else one of its own that agrees
   on_own : agrees_last kind (so.read d) ≡ false → IsReadAt d it calls → agrees kind it.value ≡ true → StandsOn l so d kind it calls
-
--- what a staging over a reading expects
-abbrev pub expected : Option ℕ → Expect
-expected None = expect.New
-expected (Some x) = expect.Cas x
 
 -- x is the CAS of the last staging of the own write w
 abbrev pub HasCas : List Made → List ℕ → OwnWrite → ℕ → Type 0
@@ -83,25 +73,6 @@ pub record TakesBack (l : List Made) (so : Sofar) (d : List ℕ) (kind : OpKind)
   pub cas_is : HasCas l d own cas
   pub unsticks : st ≡ step.Unstick d cas
 
--- the call at this place was answered Done
-abbrev pub DoneAt : ℕ → Made → Type 0
-DoneAt place m = (m.answer.place ≡ place) × (is_done m.answer.reply ≡ true)
-
--- the newest call was answered Failed, at this place
-pub record EndsFailed (place : ℕ) (calls : List Made) : Type 0 where
-  pub newest : Made
-  pub older : List Made
-  pub calls_are : calls ≡ newest ∷ older
-  pub failed : newest.answer.reply ≡ reply.Failed
-  pub place_is : newest.answer.place ≡ place
-
--- whether a staging or an unstick was refused by the document
-abbrev pub is_refusal : Reply → Bool
-is_refusal (reply.CasMismatch have) = true
-is_refusal reply.Exists = true
-is_refusal reply.Absent = true
-is_refusal _ = false
-
 -- the newest call was the write, and was refused, since the document had changed
 pub record IsMoved (t : AttemptTerms) (l : List Made) (so : Sofar) (d : List ℕ) (kind : OpKind) (content : Option Json) (calls : List Made) : Type 0 where
   pub newest : Made
@@ -117,26 +88,10 @@ pub record IsBlocked (l : List Made) (so : Sofar) (d : List ℕ) (kind : OpKind)
   pub it : Reading
   pub atr : ℕ
   pub older : List Made
-  pub asked : List Made
-  pub calls_are : calls ≡ asked ++ older
-  pub four : length asked ≡ 4
-  pub shown : Each (λ m _. (e : Entry) × ReadsEntry atr by e m) asked
+  pub asks : AskedFourTimes atr by older calls
   pub stands : StandsOn l so d kind it older
   pub staged_by : it.by ≡ Some (atr, by)
   pub there : it.gone ≡ false
-
--- n readings of document d, of which the newest shows it staged so at CAS x: each shows it staged, each after the first at
--- another CAS than the one before, and each but the newest is followed by a reading of its staging's entry, which is committed or
--- not there
-pub data ChangesHands (d : List ℕ) : ℕ → ℕ → Stage → List Made → Type 0 where
-  once : (x : ℕ) (stage : Stage) (m : Made) (body : Option Json) → ReadsDoc d x body (Some stage) m → ChangesHands d 1 x stage (m ∷ [])
-  again : (n x y : ℕ) (old stage : Stage) (m asked : Made) (older : List Made) (body : Option Json) → ReadsDoc d y body (Some stage) m → y ≢ x
-      → ((e : Entry) × ReadsEntry old.atr old.attempt e asked × (e.state ≡ Committed)) ⊎ FindsNoEntry old.atr old.attempt asked
-      → ChangesHands d n x old older → ChangesHands d (suc n) y stage (m ∷ asked ∷ older)
-
--- the document changed hands at each of nine readings
-abbrev pub IsContended : List ℕ → List Made → Type 0
-IsContended d calls = (x : ℕ) × (stage : Stage) × ChangesHands d 9 x stage calls
 
 -- the value was read at this moment, and there is one, or none
 pub record ReadsAt (so : Sofar) (d : List ℕ) (value : Option Json) (t : ℕ) (calls : List Made) : Type 0 where

@@ -27,7 +27,7 @@ pub record OpFollows (t : AttemptTerms) (l : List Made) (at n : ℕ) (so : Sofar
   pub counted : log.op ≡ n
   pub spanned : IsSpan l at log.span
   pub answered : Answered t l so (request_of so.bound o) (during log.span l) log.answer
-  pub calls : OpCalls t (request_of so.bound o) (during log.span l)
+  pub calls : OpCalls t so (request_of so.bound o) (during log.span l)
   -- all that it staged or took back is told
   pub stands : Each (λ m _. is_done m.answer.reply ≡ true → StandsAt m.answer.place log.answer m.step) (during log.span l)
   -- a call that failed is its last

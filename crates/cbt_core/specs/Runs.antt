@@ -1,16 +1,12 @@
 -- A run: its case and its book. Which runs are legal, licensed, and have logs that follow their plans.
-use Rattle.std.specs.Prelude.{◌≡◌, ℕ, suc, ◌+◌, ◌-◌, ◌^◌, ◌<◌, ◌≤◌, List, length, Option, Some, None}
-use Rattle.std.specs.Ordering.{nat_cmp}
+use Rattle.std.specs.Prelude.{◌≡◌, ℕ, suc, ◌+◌, ◌-◌, ◌^◌, ◌<◌, List, length, Option, Some, None}
 use Rattle.cbt_base.specs.Ids.{cleaner_number}
-use Rattle.cbt_base.specs.Keyed.{at_key}
 use Rattle.cbt_expr.specs.declared.plans.ClientPlan.{ClientPlan}
 use Rattle.cbt_expr.specs.declared.plans.TxnPlan.{TxnPlan}
 use Rattle.cbt_model.specs.History.{own}
-use Rattle.cbt_model.specs.Keys.{IsOrdered, doc_at}
 use Rattle.cbt_model.specs.Legal.{Terms, IsLegal}
-use Rattle.cbt_model.specs.declared.documents.DocState.{DocState}
+use Rattle.cbt_model.specs.Stops.{stop_of}
 use Rattle.cbt_model.specs.declared.events.Made.{Made}
-use Rattle.cbt_model.specs.declared.states.State.{State}
 use Rattle.cbt_book.specs.Cleaners.{CleanerPlan, CleanerFollows, SweepFollows}
 use Rattle.cbt_book.specs.Licence.{IsLicensed}
 use Rattle.cbt_book.specs.Numbers.{Identity}
@@ -38,14 +34,6 @@ abbrev pub sweeps : Option ℕ → ℕ
 sweeps None = 0
 sweeps (Some ms) = 1
 
--- an opening in which nobody has written: no entry, no staging, no stamp above the clock
-pub record IsFresh (s : State) : Type 0 where
-  pub ordered : IsOrdered s
-  pub entries : length s.entries ≡ 0
-  pub clients : length s.clients ≡ 0
-  pub unstaged : (doc : List ℕ) (d : DocState) → doc_at s doc ≡ Some d → d.stage ≡ None
-  pub low : (doc : List ℕ) (d : DocState) → doc_at s doc ≡ Some d → d.cas ≤ s.last
-
 -- the numbers of transactions and tries fit into an attempt's identifier, and the actors are the clients, the cleaners and the sweep
 pub record IsWithinLimits (case : Case) : Type 0 where
   pub txns : (n : ℕ) (plan : ClientPlan) → numbered case.plans n ≡ Some plan → length plan.txns < 2 ^ 16
@@ -71,7 +59,7 @@ pub record ClientsFollow (case : Case) (book : Book) : Type 0 where
 -- what the n-th cleaner is to do; the sweep is the last
 abbrev pub cleaner_plan : Case → ℕ → ℕ → CleanerPlan
 cleaner_plan case n rounds =
-    record { id = cleaner_number n; rounds = rounds; atrs = case.atrs; lapse = case.lapse; stop = at_key nat_cmp case.stops (length case.plans + n) }
+    record { id = cleaner_number n; rounds = rounds; atrs = case.atrs; lapse = case.lapse; stop = stop_of case.stops (length case.plans + n) }
 
 -- each cleaner has a log, which follows its plan, and so has the sweep
 pub record CleanersFollow (case : Case) (book : Book) : Type 0 where

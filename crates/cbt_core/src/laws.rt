@@ -3,14 +3,17 @@
 
 ghost use Rattle.std.specs.Prelude.{◌≡◌, ℕ, ◌≤◌, List, Option, length};
 ghost use Rattle.cbt_json.specs.declared.value.Json.{Json};
+ghost use Rattle.cbt_model.specs.Fresh.{IsFresh};
 ghost use Rattle.cbt_model.specs.declared.events.Event.{Event};
 ghost use Rattle.cbt_model.specs.declared.states.State.{State};
 ghost use Rattle.cbt_core.specs.Committed.{table_at, table_of, commits_count};
 ghost use Rattle.cbt_core.specs.Invariant.{StampsRise, AddedOnce, DecidedOnce, HeldWhilePending, ListedWhenDecided, GoneWhenFinished, ShownStays, CommitsOwnWrites};
 ghost use Rattle.cbt_core.specs.Laws.{NeverBoth, CommitsOnce, NoCommitDecided, DocumentsCommitted, NoUpdateLost, ContendedByOthers, MovedByOther, BlockedByAnother, PassesLeaveNothing, AttemptsLeaveNothing, LostByEviction, AtMostOnce};
+ghost use Rattle.cbt_core.specs.Lawful.{IsLawfulRun};
 ghost use Rattle.cbt_core.specs.Openings.{AreFresh, IsSound};
 ghost use Rattle.cbt_core.specs.Right.{AnswersRight, MomentsRise};
-ghost use Rattle.cbt_core.specs.Runs.{AreLicensed, IsFresh, IsLegalRun, LogsFollow};
+ghost use Rattle.cbt_core.specs.Runs.{LogsFollow};
+ghost use Rattle.cbt_core.specs.Stops.{StopsKept, ClientsComplete, CleanersComplete};
 
 use crate::case::Case;
 use cbt_book::Book;
@@ -23,10 +26,7 @@ pub fn fresh_openings()
 
 /// The interleaving invariant: what is so after every prefix of the history.
 pub fn invariant(case: &Case, book: &Book)
-    requires legal { IsLegalRun case.now book.now }
-    requires licensed { AreLicensed case.now book.now }
-    requires sound { IsSound case.now.opening }
-    requires fresh { AreFresh case.now.opening book.now.kept.history }
+    requires lawful { IsLawfulRun case.now book.now }
     ensures stamps { StampsRise book.now.kept.opening book.now.kept.history }
     ensures added { AddedOnce book.now.kept.opening book.now.kept.history }
     ensures decided { DecidedOnce book.now.kept.opening book.now.kept.history }
@@ -42,10 +42,7 @@ pub fn invariant(case: &Case, book: &Book)
 /// No attempt both commits and is rolled back, and none commits twice; no commit is answered that its
 /// entry is decided.
 pub fn k1(case: &Case, book: &Book)
-    requires legal { IsLegalRun case.now book.now }
-    requires licensed { AreLicensed case.now book.now }
-    requires sound { IsSound case.now.opening }
-    requires fresh { AreFresh case.now.opening book.now.kept.history }
+    requires lawful { IsLawfulRun case.now book.now }
     ensures never_both { NeverBoth book.now.kept.opening book.now.kept.history }
     ensures once { CommitsOnce book.now.kept.opening book.now.kept.history }
     ensures undecided { NoCommitDecided book.now.kept.opening book.now.kept.history }
@@ -65,10 +62,7 @@ pub fn tables_count_commits()
 /// opening's documents, and over them the write sets of the commits so far, as the logs tell them. The
 /// entry of a committed attempt lists its own writes by kind, and what it has staged are these.
 pub fn k2(case: &Case, book: &Book)
-    requires legal { IsLegalRun case.now book.now }
-    requires licensed { AreLicensed case.now book.now }
-    requires sound { IsSound case.now.opening }
-    requires fresh { AreFresh case.now.opening book.now.kept.history }
+    requires lawful { IsLawfulRun case.now book.now }
     requires follow { LogsFollow case.now book.now }
     ensures documents { DocumentsCommitted case.now book.now }
     ensures own_writes { CommitsOwnWrites case.now book.now }
@@ -84,10 +78,7 @@ pub fn k2(case: &Case, book: &Book)
 /// and the call that was refused. Where one was answered Blocked, it was by an attempt of another
 /// transaction, or by one whose entry stood in the opening.
 pub fn k3(case: &Case, book: &Book)
-    requires legal { IsLegalRun case.now book.now }
-    requires licensed { AreLicensed case.now book.now }
-    requires sound { IsSound case.now.opening }
-    requires fresh { AreFresh case.now.opening book.now.kept.history }
+    requires lawful { IsLawfulRun case.now book.now }
     requires follow { LogsFollow case.now book.now }
     ensures answers { AnswersRight case.now book.now }
     ensures moments { MomentsRise book.now }
@@ -104,10 +95,7 @@ pub fn k3(case: &Case, book: &Book)
 /// attempt that sent its entry, from its own end on, where it ended committed and complete, rolled back,
 /// or with its entry lost. Where an entry was lost another actor had dropped it under its guard.
 pub fn k4(case: &Case, book: &Book)
-    requires legal { IsLegalRun case.now book.now }
-    requires licensed { AreLicensed case.now book.now }
-    requires sound { IsSound case.now.opening }
-    requires fresh { AreFresh case.now.opening book.now.kept.history }
+    requires lawful { IsLawfulRun case.now book.now }
     requires follow { LogsFollow case.now book.now }
     ensures passes { PassesLeaveNothing book.now }
     ensures attempts { AttemptsLeaveNothing book.now }
@@ -120,10 +108,7 @@ pub fn k4(case: &Case, book: &Book)
 /// No update is lost: between the moment at which a committed attempt read a document that it wrote and
 /// its commit, no other attempt commits a write of that document.
 pub fn k5(case: &Case, book: &Book)
-    requires legal { IsLegalRun case.now book.now }
-    requires licensed { AreLicensed case.now book.now }
-    requires sound { IsSound case.now.opening }
-    requires fresh { AreFresh case.now.opening book.now.kept.history }
+    requires lawful { IsLawfulRun case.now book.now }
     requires follow { LogsFollow case.now book.now }
     ensures none_lost { NoUpdateLost case.now book.now }
 {
@@ -134,12 +119,21 @@ pub fn k5(case: &Case, book: &Book)
 /// At most one attempt of a transaction commits, and once. A transaction that ended Committed has its
 /// commit at the place kept, and one whose end tells of none has none.
 pub fn k6(case: &Case, book: &Book)
-    requires legal { IsLegalRun case.now book.now }
-    requires licensed { AreLicensed case.now book.now }
-    requires sound { IsSound case.now.opening }
-    requires fresh { AreFresh case.now.opening book.now.kept.history }
+    requires lawful { IsLawfulRun case.now book.now }
     requires follow { LogsFollow case.now book.now }
     ensures at_most_once { AtMostOnce book.now }
+{
+    let _ = case;
+    let _ = book;
+}
+
+/// A client that made another number of calls than its stop names, or has no stop, began and ended all
+/// its transactions, and such a cleaner all its rounds.
+pub fn completeness(case: &Case, book: &Book)
+    requires follow { LogsFollow case.now book.now }
+    requires kept { StopsKept case.now book.now }
+    ensures clients { ClientsComplete case.now book.now }
+    ensures cleaners { CleanersComplete case.now book.now }
 {
     let _ = case;
     let _ = book;

@@ -19,14 +19,16 @@ use Rattle.cbt_book.specs.ReadAt as ways
 use Rattle.cbt_book.specs.Shown as shown
 use Rattle.cbt_book.specs.Shown.{adds, aborts, decides}
 use Rattle.cbt_book.specs.Spans as spans
+use Rattle.cbt_book.specs.Closing.{drops}
+use Rattle.cbt_book.specs.Closing as closing
 use Rattle.cbt_expr.specs.declared.plans.Op.TheVariants as op
+use Rattle.cbt_model.specs.Fresh.{IsFresh}
 use Rattle.cbt_book.specs.declared.operations.When.TheVariants as when
 use Rattle.cbt_core.specs.Attempts as attempts
-use Rattle.cbt_core.specs.Attempts.{drops}
 use Rattle.cbt_core.specs.Clients.{FollowsPlan}
 use Rattle.cbt_core.specs.OpAnswers as answers
 use Rattle.cbt_core.specs.Operations as operations
-use Rattle.cbt_core.specs.Runs.{IsFresh, own_of, identity_of, IsLegalRun, AreLicensed, LogsFollow, cleaner_plan}
+use Rattle.cbt_core.specs.Runs.{own_of, identity_of, IsLegalRun, AreLicensed, LogsFollow, cleaner_plan}
 use Rattle.cbt_core.specs.Transactions as transactions
 use Rattle.cbt_core.specs.Walk as walk
 use Rattle.cbt_core.specs.WriteSets.{numbered}
@@ -293,7 +295,7 @@ attempt_2_1_1-follows = record {
   third = ((λ e. absurd (no_bool (sym e))), λ h. absurd (not_third (attempt_number 2 1 1) [] (lit≤ tt) h));
   ends = (
     attempts.for_answer refl,
-    attempts.unsent ((λ e. nothing e) ▸ (λ e. nothing e) ▸ (λ e. nothing e) ▸ (λ e. nothing e) ▸ (λ e. nothing e) ▸ (λ e. nothing e) ▸ tt) refl,
+    closing.unsent ((λ e. nothing e) ▸ (λ e. nothing e) ▸ (λ e. nothing e) ▸ (λ e. nothing e) ▸ (λ e. nothing e) ▸ (λ e. nothing e) ▸ tt) refl,
     tt,
   );
 }

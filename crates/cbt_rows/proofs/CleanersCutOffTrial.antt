@@ -7,6 +7,7 @@ use Rattle.cbt_model.specs.Faults.{fate_of}
 use Rattle.cbt_model.specs.Fitting.{step_fits}
 use Rattle.cbt_model.specs.Legal.{calls_below, line_due, ahead_at}
 use Rattle.cbt_base.specs.Clock.{held}
+use Rattle.cbt_model.specs.Fresh.{IsFresh}
 use Rattle.cbt_model.specs.Table.{row}
 use Rattle.cbt_model.specs.declared.events.Event.{Event}
 use Rattle.cbt_book.specs.Cleaners as cleaners
@@ -14,7 +15,7 @@ use Rattle.cbt_book.specs.Licence.{IsLicensed, MayTake}
 use Rattle.cbt_book.specs.Passes as passes
 use Rattle.cbt_book.specs.Spans as spans
 use Rattle.cbt_core.specs.Clients.{FollowsPlan}
-use Rattle.cbt_core.specs.Runs.{IsFresh, own_of, identity_of, IsLegalRun, AreLicensed, LogsFollow, cleaner_plan}
+use Rattle.cbt_core.specs.Runs.{own_of, identity_of, IsLegalRun, AreLicensed, LogsFollow, cleaner_plan}
 use Rattle.cbt_core.specs.WriteSets.{numbered}
 use Rattle.cbt_rows.proofs.Named.{found-all, all_in, both_numbered, nothing, all_from, own-none, all_numbered, all_planned, one_value, not_me, ◌▸◌, by_number}
 use Rattle.cbt_rows.proofs.Never.{unfailed, no_bool, whole_cut}

@@ -15,12 +15,14 @@ use Rattle.cbt_book.specs.Cleaners as cleaners
 use Rattle.cbt_book.specs.Licence.{IsLicensed, MayTake}
 use Rattle.cbt_book.specs.Shown.{adds, aborts}
 use Rattle.cbt_book.specs.Spans as spans
+use Rattle.cbt_book.specs.Closing.{drops}
+use Rattle.cbt_book.specs.Closing as closing
 use Rattle.cbt_expr.specs.declared.plans.Op.TheVariants as op
+use Rattle.cbt_model.specs.Fresh.{IsFresh}
 use Rattle.cbt_core.specs.Attempts as attempts
-use Rattle.cbt_core.specs.Attempts.{drops}
 use Rattle.cbt_core.specs.Clients.{FollowsPlan}
 use Rattle.cbt_core.specs.Operations as operations
-use Rattle.cbt_core.specs.Runs.{IsFresh, own_of, identity_of, IsLegalRun, AreLicensed, LogsFollow, cleaner_plan}
+use Rattle.cbt_core.specs.Runs.{own_of, identity_of, IsLegalRun, AreLicensed, LogsFollow, cleaner_plan}
 use Rattle.cbt_core.specs.Transactions as transactions
 use Rattle.cbt_core.specs.Walk as walk
 use Rattle.cbt_core.specs.WriteSets.{numbered}
@@ -144,7 +146,7 @@ attempt_1_1_1-follows = record {
   may_commit = λ h. absurd (never_of commits (attempt_number 1 1 1) (m2 ∷ []) refl h);
   may_abort = λ h. attempts.for_answer refl;
   third = ((λ e. absurd (no_bool (sym e))), λ h. absurd (not_third (attempt_number 1 1 1) (m2 ∷ []) (lit≤ tt) h));
-  ends = (attempts.for_answer refl, attempts.no_entry (inl (refl, refl)), ((λ h. unfailed m2 refl) ▸ tt));
+  ends = (attempts.for_answer refl, closing.no_entry (inl (refl, refl)), ((λ h. unfailed m2 refl) ▸ tt));
 }
 
 client_1-follows : FollowsPlan 1 16 (record { txns = plan_1_1 ∷ [] }) made_1 client_1

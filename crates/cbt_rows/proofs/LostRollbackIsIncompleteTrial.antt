@@ -17,12 +17,13 @@ use Rattle.cbt_book.specs.Licence.{IsLicensed, MayTake}
 use Rattle.cbt_book.specs.Shown as shown
 use Rattle.cbt_book.specs.Shown.{adds, aborts, decides}
 use Rattle.cbt_book.specs.Spans as spans
+use Rattle.cbt_book.specs.Closing.{drops}
 use Rattle.cbt_expr.specs.declared.plans.Op.TheVariants as op
+use Rattle.cbt_model.specs.Fresh.{IsFresh}
 use Rattle.cbt_core.specs.Attempts as attempts
-use Rattle.cbt_core.specs.Attempts.{drops}
 use Rattle.cbt_core.specs.Clients.{FollowsPlan}
 use Rattle.cbt_core.specs.Operations as operations
-use Rattle.cbt_core.specs.Runs.{IsFresh, own_of, identity_of, IsLegalRun, AreLicensed, LogsFollow, cleaner_plan}
+use Rattle.cbt_core.specs.Runs.{own_of, identity_of, IsLegalRun, AreLicensed, LogsFollow, cleaner_plan}
 use Rattle.cbt_core.specs.Transactions as transactions
 use Rattle.cbt_core.specs.Walk as walk
 use Rattle.cbt_core.specs.WriteSets.{numbered}

@@ -24,8 +24,8 @@ use Rattle.cbt_book.specs.Cleaners.{Whole, Cut}
 use Rattle.cbt_book.specs.Licence.{WasStaged, WritesFor, stages, unsticks_own, WritesInVain, CommitsUnsettled}
 use Rattle.cbt_book.specs.OwnLists.{Once}
 use Rattle.cbt_book.specs.Shown.{ReadsDoc, FindsNoEntry, ReadsEntry, AddsEntry, added, was_there, adds}
-use Rattle.cbt_core.specs.Attempts.{Settles, ThirdInVain, resolves, drops}
-use Rattle.cbt_core.specs.OpCalls.{writes_doc, reads_doc, reads_entry}
+use Rattle.cbt_book.specs.Closing.{Settles, ThirdInVain, resolves, drops}
+use Rattle.cbt_book.specs.Calls.{writes_doc, reads_doc, reads_entry}
 
 pub no_bool : true ≡ false → ⊥
 no_bool e = cc

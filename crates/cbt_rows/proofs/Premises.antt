@@ -1,11 +1,12 @@
 -- What the laws ask of a case and a book is met by the row in which a cleaner frees a pending stage.
 use Rattle.std.proofs.Common.{◌≡◌, List, refl, sym, subst, inl}
+use Rattle.cbt_model.specs.Fresh.{IsFresh}
 use Rattle.cbt_model.specs.declared.events.Event.{Event}
 use Rattle.cbt_model.specs.declared.states.State.{State}
 use Rattle.cbt_book.specs.declared.book.Book.{Book}
 use Rattle.cbt_core.specs.Laws.{IsPass}
 use Rattle.cbt_core.specs.Openings.{IsSound, AreFresh}
-use Rattle.cbt_core.specs.Runs.{IsFresh, IsLegalRun, AreLicensed, LogsFollow}
+use Rattle.cbt_core.specs.Runs.{IsLegalRun, AreLicensed, LogsFollow}
 use Rattle.cbt_core.specs.declared.case.Case.{Case}
 use Rattle.cbt_rows.proofs.CleanerFreesPendingStageTrial as trial
 use Rattle.cbt_rows.specs.CleanerFreesPendingStage.{opening, history, run_case, book, cleaner_1, round_1_1, pass_1_1_1}

@@ -21,15 +21,17 @@ use Rattle.cbt_book.specs.ReadAt as ways
 use Rattle.cbt_book.specs.Shown as shown
 use Rattle.cbt_book.specs.Shown.{adds, aborts, decides}
 use Rattle.cbt_book.specs.Spans as spans
+use Rattle.cbt_book.specs.Closing.{drops}
+use Rattle.cbt_book.specs.Closing as closing
 use Rattle.cbt_expr.specs.declared.plans.Op.TheVariants as op
+use Rattle.cbt_model.specs.Fresh.{IsFresh}
 use Rattle.cbt_book.specs.declared.operations.When.TheVariants as when
 use Rattle.cbt_core.specs.Attempts as attempts
-use Rattle.cbt_core.specs.Attempts.{drops}
 use Rattle.cbt_core.specs.Clients.{FollowsPlan}
 use Rattle.cbt_core.specs.OpAnswers as answers
 use Rattle.cbt_core.specs.Operations as operations
 use Rattle.cbt_core.specs.Committed.{table_at}
-use Rattle.cbt_core.specs.Runs.{IsFresh, own_of, identity_of, IsLegalRun, AreLicensed, LogsFollow, cleaner_plan}
+use Rattle.cbt_core.specs.Runs.{own_of, identity_of, IsLegalRun, AreLicensed, LogsFollow, cleaner_plan}
 use Rattle.cbt_core.specs.Transactions as transactions
 use Rattle.cbt_core.specs.Walk as walk
 use Rattle.cbt_core.specs.WriteSets.{numbered, write_set}
@@ -341,7 +343,7 @@ attempt_1_1_1-follows = record {
       good = refl;
       keep = refl;
     },
-    attempts.told ((not_of commits (attempt_number 1 1 1) m17 refl ▹ not_of commits (attempt_number 1 1 1) m16 refl ▹ inl (
+    closing.told ((not_of commits (attempt_number 1 1 1) m17 refl ▹ not_of commits (attempt_number 1 1 1) m16 refl ▹ inl (
       refl,
       (
         0,
@@ -462,7 +464,7 @@ attempt_2_1_1-follows = record {
       good = refl;
       keep = refl;
     },
-    attempts.told ((not_of commits (attempt_number 2 1 1) m15 refl ▹ not_of commits (attempt_number 2 1 1) m14 refl ▹ inl (
+    closing.told ((not_of commits (attempt_number 2 1 1) m15 refl ▹ not_of commits (attempt_number 2 1 1) m14 refl ▹ inl (
       refl,
       (
         0,

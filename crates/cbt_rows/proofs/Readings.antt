@@ -8,7 +8,7 @@ use Rattle.cbt_model.specs.declared.steps.Step.{Step}
 use Rattle.cbt_book.specs.OwnLists.{Once}
 use Rattle.cbt_book.specs.ReadAt.{Reading, IsReadAt, absent, unstaged, uncommitted, committed, dead}
 use Rattle.cbt_book.specs.Shown.{ReadsDoc, FindsNoDoc, ReadsEntry, FindsNoEntry}
-use Rattle.cbt_core.specs.OpCalls.{reads_doc, reads_entry}
+use Rattle.cbt_book.specs.Calls.{reads_doc, reads_entry}
 use Rattle.cbt_rows.proofs.Needs.{shows_cas}
 use Rattle.cbt_rows.proofs.Never.{never, same-number, some-none}
 

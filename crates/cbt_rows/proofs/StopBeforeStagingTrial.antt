@@ -14,11 +14,12 @@ use Rattle.cbt_book.specs.Cleaners as cleaners
 use Rattle.cbt_book.specs.Licence.{IsLicensed, MayTake}
 use Rattle.cbt_book.specs.Shown.{adds, aborts}
 use Rattle.cbt_book.specs.Spans as spans
+use Rattle.cbt_book.specs.Closing.{drops}
 use Rattle.cbt_expr.specs.declared.plans.Op.TheVariants as op
+use Rattle.cbt_model.specs.Fresh.{IsFresh}
 use Rattle.cbt_core.specs.Attempts as attempts
-use Rattle.cbt_core.specs.Attempts.{drops}
 use Rattle.cbt_core.specs.Clients.{FollowsPlan}
-use Rattle.cbt_core.specs.Runs.{IsFresh, own_of, identity_of, IsLegalRun, AreLicensed, LogsFollow, cleaner_plan}
+use Rattle.cbt_core.specs.Runs.{own_of, identity_of, IsLegalRun, AreLicensed, LogsFollow, cleaner_plan}
 use Rattle.cbt_core.specs.Transactions as transactions
 use Rattle.cbt_core.specs.WriteSets.{numbered}
 use Rattle.cbt_rows.proofs.Named.{found-all, both_numbered, nothing, all_from, own-none, all_numbered, all_planned, one_value, not_me, ◌▸◌, by_number}

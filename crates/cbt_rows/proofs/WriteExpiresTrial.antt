@@ -18,11 +18,13 @@ use Rattle.cbt_book.specs.OwnLists.{Once, In}
 use Rattle.cbt_book.specs.Shown as shown
 use Rattle.cbt_book.specs.Shown.{adds, aborts, decides}
 use Rattle.cbt_book.specs.Spans as spans
+use Rattle.cbt_book.specs.Closing.{drops}
+use Rattle.cbt_book.specs.Closing as closing
 use Rattle.cbt_expr.specs.declared.plans.Op.TheVariants as op
+use Rattle.cbt_model.specs.Fresh.{IsFresh}
 use Rattle.cbt_core.specs.Attempts as attempts
-use Rattle.cbt_core.specs.Attempts.{drops}
 use Rattle.cbt_core.specs.Clients.{FollowsPlan}
-use Rattle.cbt_core.specs.Runs.{IsFresh, own_of, identity_of, IsLegalRun, AreLicensed, LogsFollow, cleaner_plan}
+use Rattle.cbt_core.specs.Runs.{own_of, identity_of, IsLegalRun, AreLicensed, LogsFollow, cleaner_plan}
 use Rattle.cbt_core.specs.Transactions as transactions
 use Rattle.cbt_core.specs.WriteSets.{numbered}
 use Rattle.cbt_rows.proofs.Named.{found-all, both_numbered, nothing, all_listed, named-abort, all_from, own-none, all_numbered, all_planned, one_value, not_me, ◌▸◌, by_number}
@@ -158,7 +160,7 @@ attempt_1_1_1-follows = record {
   third = ((λ e. absurd (no_bool (sym e))), λ h. absurd (not_third (attempt_number 1 1 1) (m3 ∷ m2 ∷ []) (lit≤ tt) h));
   ends = (
     attempts.for_time (lit< tt),
-    attempts.dropped (inl ((12, refl), inl refl, inl refl)),
+    closing.dropped (inl ((12, refl), inl refl, inl refl)),
     ((λ h. unfailed m3 refl) ▸ (λ h. unfailed m2 refl) ▸ tt),
   );
 }

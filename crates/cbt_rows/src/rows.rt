@@ -1,6 +1,7 @@
 //! The trials of the rows.
 ghost use Rattle.std.specs.Prelude.{Some, None};
-ghost use Rattle.cbt_core.specs.Runs.{IsFresh, IsLegalRun, AreLicensed, LogsFollow};
+ghost use Rattle.cbt_model.specs.Fresh.{IsFresh};
+ghost use Rattle.cbt_core.specs.Runs.{IsLegalRun, AreLicensed, LogsFollow};
 ghost use Rattle.cbt_rows.specs.Words.{HasValue, doc_a, doc_b, doc_seen, doc_z, n, got};
 ghost use Rattle.cbt_rows.specs.OneReplace;
 ghost use Rattle.cbt_rows.specs.StopBeforeCommit;

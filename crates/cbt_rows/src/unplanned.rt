@@ -1,9 +1,8 @@
 ghost use Rattle.std.specs.Prelude.{◌≡◌, Some, None, [], ◌∷◌, true};
 ghost use Rattle.cbt_book.specs.declared.clients.TxnEnd.TheVariants as txn_end;
-ghost use Rattle.cbt_core.specs.Attempts.{CommitHolds, HasEnded, IsCut, IsFinished, MayClose, MayKeep, MayRollBack};
+ghost use Rattle.cbt_core.specs.Attempts.{HasEnded, IsCut, MayKeep, MayRollBack};
 ghost use Rattle.cbt_core.specs.Clients.{FollowsPlan, RunsOn};
 ghost use Rattle.cbt_core.specs.OpAnswers.{Carries, IsBlocked};
-ghost use Rattle.cbt_core.specs.OpCalls.{GetCalls, MayWrite};
 ghost use Rattle.cbt_core.specs.Operations.{OpFollows};
 ghost use Rattle.cbt_core.specs.Transactions.{EndsTxn, IsRetried};
 ghost use Rattle.cbt_core.specs.Walk.{nothing_yet, noted};
@@ -15,6 +14,8 @@ ghost use Rattle.cbt_rows.specs.OneReplace as one;
 ghost use Rattle.cbt_rows.specs.SlowOwnerLosesItsEntry as slow;
 ghost use Rattle.cbt_rows.specs.StopBeforeCommit as stopped;
 ghost use Rattle.cbt_rows.specs.TransactionExpires as expires;
+ghost use Rattle.cbt_book.specs.Closing.{CommitHolds, IsFinished, MayClose};
+ghost use Rattle.cbt_book.specs.Calls.{GetCalls, MayWrite};
 ghost use Rattle.cbt_rows.specs.Words.{doc_a, n};
 
 /// The base of a staging is not told to be at another event, nor at an earlier reading where it was

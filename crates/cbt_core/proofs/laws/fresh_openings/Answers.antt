@@ -1,4 +1,4 @@
-use Rattle.cbt_core.proofs.FreshOpenings.{fresh-sound, fresh-attempts}
+use Rattle.cbt_core.proofs.runs.FreshOpenings.{fresh-sound, fresh-attempts}
 use Rattle.cbt_core.proofs.laws.fresh_openings.Goals as goal
 
 pub returns-clause-sound : goal.returns-clause-sound

@@ -1,18 +1,18 @@
-use Rattle.cbt_core.proofs.Ended.{attempts_leave}
-use Rattle.cbt_core.proofs.Evicted.{lost_by_eviction}
-use Rattle.cbt_core.proofs.FreshOpenings.{lawful_run}
-use Rattle.cbt_core.proofs.Passed.{passes_leave}
+use Rattle.cbt_core.proofs.k4_cleanup.Ended.{attempts_leave}
+use Rattle.cbt_core.proofs.k4_cleanup.Evicted.{lost_by_eviction}
+use Rattle.cbt_core.proofs.runs.FreshOpenings.{lawful_run}
+use Rattle.cbt_core.proofs.k4_cleanup.Passed.{passes_leave}
 use Rattle.cbt_core.proofs.laws.k4.Goals as goal
 
 pub returns : goal.returns
 returns c = record {
   passes = λ pass covered a i is ok listed after_end.
-      passes_leave c.args.case.now c.args.book.now c.requires.legal c.requires.follow
-      (lawful_run c.args.case.now c.args.book.now c.requires.legal c.requires.licensed c.requires.sound c.requires.fresh) pass covered a i is ok listed after_end;
+      passes_leave c.args.case.now c.args.book.now c.requires.lawful.legal c.requires.follow
+      (lawful_run c.args.case.now c.args.book.now c.requires.lawful) pass covered a i is ok listed after_end;
   attempts = λ client txn try_no p i log e log_is tells at sends after_end.
-      attempts_leave c.args.case.now c.args.book.now c.requires.legal c.requires.follow
-      (lawful_run c.args.case.now c.args.book.now c.requires.legal c.requires.licensed c.requires.sound c.requires.fresh) client txn try_no p i log e log_is tells at sends after_end;
+      attempts_leave c.args.case.now c.args.book.now c.requires.lawful.legal c.requires.follow
+      (lawful_run c.args.case.now c.args.book.now c.requires.lawful) client txn try_no p i log e log_is tells at sends after_end;
   lost = λ client txn try_no place log log_is end_is.
-      lost_by_eviction c.args.case.now c.args.book.now c.requires.legal c.requires.follow
-      (lawful_run c.args.case.now c.args.book.now c.requires.legal c.requires.licensed c.requires.sound c.requires.fresh) client txn try_no place log log_is end_is;
+      lost_by_eviction c.args.case.now c.args.book.now c.requires.lawful.legal c.requires.follow
+      (lawful_run c.args.case.now c.args.book.now c.requires.lawful) client txn try_no place log log_is end_is;
 }

@@ -1,6 +1,6 @@
 use Rattle.std.proofs.Common.{ap}
 use Rattle.cbt_core.specs.Committed.{table_after}
-use Rattle.cbt_core.proofs.Counting.{commits-counted}
+use Rattle.cbt_core.proofs.k2_documents.Counting.{commits-counted}
 use Rattle.cbt_core.proofs.laws.tables_count_commits.Goals as goal
 
 pub returns : goal.returns

@@ -5,8 +5,9 @@ use Rattle.cbt_model.specs.declared.steps.Expect.TheVariants as expect
 use Rattle.cbt_model.specs.declared.steps.Step.TheVariants as step
 use Rattle.cbt_book.specs.OwnLists.{Once, during}
 use Rattle.cbt_book.specs.ReadAt.{Reading, IsReadAt}
+use Rattle.cbt_book.specs.Outcomes.{DoneAt, expected}
 use Rattle.cbt_book.specs.declared.operations.When.TheVariants as when
-use Rattle.cbt_core.specs.OpAnswers.{StagesOver, over_reading, over_own, StandsOn, on_earlier, on_own, DoneAt, expected}
+use Rattle.cbt_core.specs.OpAnswers.{StagesOver, over_reading, over_own, StandsOn, on_earlier, on_own}
 use Rattle.cbt_core.specs.Walk.{LastRead, nothing_yet, noted}
 use Rattle.cbt_rows.specs.Changes.{first_try, fresh_list, get_first, got_first, staged_over, read_again, read_first}
 use Rattle.cbt_rows.specs.OneReplace as one

@@ -1,0 +1,4 @@
+-- The fourth law: what has ended leaves nothing.
+pub mod Passed
+pub mod Ended
+pub mod Evicted

@@ -1,0 +1,2 @@
+-- The fifth law: no update is lost.
+pub mod Updates

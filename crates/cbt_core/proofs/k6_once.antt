@@ -1,0 +1,2 @@
+-- The sixth law: a transaction commits at most once.
+pub mod Once
