@@ -125,7 +125,7 @@ op_1_1_1_2-follows = follows_as (inserts-n-none doc_b refl) (record {
   counted = refl;
   spanned = record { follows = lit≤ tt; next = refl; ends = spans.without_calls refl refl };
   answered = (refl, refl);
-  calls = record { only = tt; readings = lit≤ tt; entries = lit≤ tt; added = lit≤ tt; written_last = tt };
+  calls = refl;
   stands = tt;
   failed = tt;
   in_time = tt;

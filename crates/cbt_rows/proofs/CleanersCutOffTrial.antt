@@ -18,7 +18,7 @@ use Rattle.cbt_core.specs.Clients.{FollowsPlan}
 use Rattle.cbt_core.specs.Runs.{own_of, identity_of, IsLegalRun, AreLicensed, LogsFollow, cleaner_plan}
 use Rattle.cbt_core.specs.WriteSets.{numbered}
 use Rattle.cbt_rows.proofs.Named.{found-all, all_in, both_numbered, nothing, all_from, own-none, all_numbered, all_planned, one_value, not_me, ◌▸◌, by_number}
-use Rattle.cbt_rows.proofs.Never.{unfailed, no_bool, whole_cut}
+use Rattle.cbt_rows.proofs.Never.{unfailed, no_bool}
 use Rattle.cbt_rows.specs.Words.{HasValue, doc_a}
 use Rattle.cbt_rows.specs.CleanersCutOff.{opening, past_0, past_4, history, marks, plans, run_case, book, e1, e5, m0, m1, m2, m3, m4, m5, made_1, made_2, cleaner_1, cleaner_2}
 
@@ -143,7 +143,7 @@ cleaner_1-follows = record {
           first = m2;
           later = [];
           calls = refl;
-          reads = refl;
+          may = record { reads = refl; only = tt; few = lit≤ tt };
           ends = record {
             entries = ([]);
             shown = refl;
@@ -153,7 +153,7 @@ cleaner_1-follows = record {
           };
         } ▸ tt);
         inside = lit≤ tt;
-        all = λ e. refl;
+        behind = cleaners.none refl;
       };
     });
   } ▸ record {
@@ -173,7 +173,7 @@ cleaner_1-follows = record {
       beats = refl;
       beaten = λ e. unfailed m5 refl e;
       share = refl;
-      passes = record { over = (0 ∷ [], refl); follow = tt; inside = lit≤ tt; all = λ e. absurd (whole_cut (sym e)) };
+      passes = record { over = (0 ∷ [], refl); follow = tt; inside = lit≤ tt; behind = cleaners.none refl };
     });
   } ▸ tt);
   at_most = lit≤ tt;

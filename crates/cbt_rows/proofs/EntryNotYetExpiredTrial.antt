@@ -20,13 +20,13 @@ use Rattle.cbt_book.specs.ReadAt as ways
 use Rattle.cbt_book.specs.Shown as shown
 use Rattle.cbt_book.specs.Shown.{adds, aborts, decides}
 use Rattle.cbt_book.specs.Spans as spans
-use Rattle.cbt_book.specs.Closing.{drops}
 use Rattle.cbt_expr.specs.declared.plans.Op.TheVariants as op
 use Rattle.cbt_model.specs.Fresh.{IsFresh}
 use Rattle.cbt_book.specs.declared.operations.When.TheVariants as when
 use Rattle.cbt_core.specs.Attempts as attempts
 use Rattle.cbt_core.specs.Clients.{FollowsPlan}
 use Rattle.cbt_core.specs.OpAnswers as answers
+use Rattle.cbt_core.specs.OpCalls as op_calls
 use Rattle.cbt_core.specs.Operations as operations
 use Rattle.cbt_core.specs.Runs.{own_of, identity_of, IsLegalRun, AreLicensed, LogsFollow, cleaner_plan}
 use Rattle.cbt_core.specs.Transactions as transactions
@@ -150,13 +150,16 @@ op_1_1_1_1-follows = follows_as (replaces-n2 _) (record {
     }) (stage_of (attempt_number 1 1 1) 0 Replace (Some (n 2))) refl (answers.on_own refl (ways.unstaged 1 refl refl refl (inr (inr (inl
         (refl, (refl, refl)))))) refl) refl (record { attempt = refl; kind_is = refl; content_is = refl }) refl,
   );
-  calls = record {
-    only = ((refl, refl) ▸ (refl, refl, refl) ▸ refl ▸ tt);
-    readings = lit≤ tt;
-    entries = lit≤ tt;
-    added = lit≤ tt;
-    written_last = (never_writes past_1 refl ▸ never_writes past_0 refl ▸ never_writes [] refl ▸ tt);
-  };
+  calls = (
+    record {
+      only = ((refl, refl) ▸ (refl, refl, refl) ▸ refl ▸ tt);
+      readings = lit≤ tt;
+      entries = lit≤ tt;
+      added = lit≤ tt;
+      written_last = (never_writes past_1 refl ▸ never_writes past_0 refl ▸ never_writes [] refl ▸ tt);
+    },
+    op_calls.unserved refl refl,
+  );
   stands = ((λ e. ((when.At 0), refl)) ▸ (λ e. tt) ▸ (λ e. tt) ▸ tt);
   failed = (unfailed m2 refl ▸ unfailed m1 refl ▸ unfailed m0 refl ▸ tt);
   in_time = (lit≤ tt ▸ lit≤ tt ▸ lit≤ tt ▸ tt);
@@ -226,7 +229,7 @@ cleaner_1-follows = record {
           first = m5;
           later = [];
           calls = refl;
-          reads = refl;
+          may = record { reads = refl; only = tt; few = lit≤ tt };
           ends = record {
             entries = ((attempt_number 1 1 1, (entry_of Pending 1000996864 15000 (lists_of [] [] []))) ∷ []);
             shown = refl;
@@ -236,7 +239,7 @@ cleaner_1-follows = record {
           };
         } ▸ tt);
         inside = lit≤ tt;
-        all = λ e. refl;
+        behind = cleaners.none refl;
       };
     });
   } ▸ tt);

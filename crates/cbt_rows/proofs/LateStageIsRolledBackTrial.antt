@@ -29,6 +29,7 @@ use Rattle.cbt_book.specs.declared.operations.When.TheVariants as when
 use Rattle.cbt_core.specs.Attempts as attempts
 use Rattle.cbt_core.specs.Clients.{FollowsPlan}
 use Rattle.cbt_core.specs.OpAnswers as answers
+use Rattle.cbt_core.specs.OpCalls as op_calls
 use Rattle.cbt_core.specs.Operations as operations
 use Rattle.cbt_core.specs.Runs.{own_of, identity_of, IsLegalRun, AreLicensed, LogsFollow, cleaner_plan}
 use Rattle.cbt_core.specs.Transactions as transactions
@@ -232,13 +233,16 @@ op_1_1_1_1-follows = follows_as (replaces-n2 _) (record {
   counted = refl;
   spanned = record { follows = lit≤ tt; next = refl; ends = spans.with_calls m0 m2 (inr (inr (inl refl))) (inl refl) refl refl };
   answered = record { newest = m2; older = past_1; calls_are = refl; failed = refl; place_is = refl };
-  calls = record {
-    only = ((refl, refl) ▸ (refl, refl, refl) ▸ refl ▸ tt);
-    readings = lit≤ tt;
-    entries = lit≤ tt;
-    added = lit≤ tt;
-    written_last = (never_writes past_1 refl ▸ never_writes past_0 refl ▸ never_writes [] refl ▸ tt);
-  };
+  calls = (
+    record {
+      only = ((refl, refl) ▸ (refl, refl, refl) ▸ refl ▸ tt);
+      readings = lit≤ tt;
+      entries = lit≤ tt;
+      added = lit≤ tt;
+      written_last = (never_writes past_1 refl ▸ never_writes past_0 refl ▸ never_writes [] refl ▸ tt);
+    },
+    op_calls.unserved refl refl,
+  );
   stands = ((λ e. absurd (no_bool (sym e))) ▸ (λ e. tt) ▸ (λ e. tt) ▸ tt);
   failed = ((λ e. refl) ▸ unfailed m1 refl ▸ unfailed m0 refl ▸ tt);
   in_time = (lit≤ tt ▸ lit≤ tt ▸ lit≤ tt ▸ tt);
@@ -302,13 +306,16 @@ op_1_1_2_1-follows = follows_as (replaces-n2 _) (record {
     }) (stage_of (attempt_number 1 1 2) 12 Replace (Some (n 2))) refl (answers.on_own refl (ways.unstaged 1004994560 refl refl refl (inr
         (inr (inl (refl, (refl, refl)))))) refl) refl (record { attempt = refl; kind_is = refl; content_is = refl }) refl,
   );
-  calls = record {
-    only = ((refl, refl) ▸ (refl, refl, refl) ▸ refl ▸ tt);
-    readings = lit≤ tt;
-    entries = lit≤ tt;
-    added = lit≤ tt;
-    written_last = (never_writes (m8 ∷ m7 ∷ []) refl ▸ never_writes (m7 ∷ []) refl ▸ never_writes [] refl ▸ tt);
-  };
+  calls = (
+    record {
+      only = ((refl, refl) ▸ (refl, refl, refl) ▸ refl ▸ tt);
+      readings = lit≤ tt;
+      entries = lit≤ tt;
+      added = lit≤ tt;
+      written_last = (never_writes (m8 ∷ m7 ∷ []) refl ▸ never_writes (m7 ∷ []) refl ▸ never_writes [] refl ▸ tt);
+    },
+    op_calls.unserved refl refl,
+  );
   stands = ((λ e. ((when.At 7), refl)) ▸ (λ e. tt) ▸ (λ e. tt) ▸ tt);
   failed = (unfailed m9 refl ▸ unfailed m8 refl ▸ unfailed m7 refl ▸ tt);
   in_time = (lit≤ tt ▸ lit≤ tt ▸ lit≤ tt ▸ tt);

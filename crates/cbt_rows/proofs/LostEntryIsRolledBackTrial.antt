@@ -21,6 +21,7 @@ use Rattle.cbt_expr.specs.declared.plans.Op.TheVariants as op
 use Rattle.cbt_model.specs.Fresh.{IsFresh}
 use Rattle.cbt_core.specs.Attempts as attempts
 use Rattle.cbt_core.specs.Clients.{FollowsPlan}
+use Rattle.cbt_core.specs.OpCalls as op_calls
 use Rattle.cbt_core.specs.Operations as operations
 use Rattle.cbt_core.specs.Runs.{own_of, identity_of, IsLegalRun, AreLicensed, LogsFollow, cleaner_plan}
 use Rattle.cbt_core.specs.Transactions as transactions
@@ -119,13 +120,16 @@ op_1_1_1_1-follows = follows_as (replaces-n2 _) (record {
   counted = refl;
   spanned = record { follows = lit≤ tt; next = refl; ends = spans.with_calls m0 m1 (inr (inl refl)) (inl refl) refl refl };
   answered = record { newest = m1; older = past_0; calls_are = refl; failed = refl; place_is = refl };
-  calls = record {
-    only = ((refl, refl, refl) ▸ refl ▸ tt);
-    readings = lit≤ tt;
-    entries = lit≤ tt;
-    added = lit≤ tt;
-    written_last = (never_writes past_0 refl ▸ never_writes [] refl ▸ tt);
-  };
+  calls = (
+    record {
+      only = ((refl, refl, refl) ▸ refl ▸ tt);
+      readings = lit≤ tt;
+      entries = lit≤ tt;
+      added = lit≤ tt;
+      written_last = (never_writes past_0 refl ▸ never_writes [] refl ▸ tt);
+    },
+    op_calls.unserved refl refl,
+  );
   stands = ((λ e. tt) ▸ (λ e. tt) ▸ tt);
   failed = ((λ e. refl) ▸ unfailed m0 refl ▸ tt);
   in_time = (lit≤ tt ▸ lit≤ tt ▸ tt);

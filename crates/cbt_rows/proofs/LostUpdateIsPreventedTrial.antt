@@ -29,6 +29,7 @@ use Rattle.cbt_book.specs.declared.operations.When.TheVariants as when
 use Rattle.cbt_core.specs.Attempts as attempts
 use Rattle.cbt_core.specs.Clients.{FollowsPlan}
 use Rattle.cbt_core.specs.OpAnswers as answers
+use Rattle.cbt_core.specs.OpCalls as op_calls
 use Rattle.cbt_core.specs.Operations as operations
 use Rattle.cbt_core.specs.Committed.{table_at}
 use Rattle.cbt_core.specs.Runs.{own_of, identity_of, IsLegalRun, AreLicensed, LogsFollow, cleaner_plan}
@@ -327,13 +328,16 @@ op_1_1_1_2-follows = follows_as (replaces-more-n1 doc_a refl) (record {
       ),
     ))) refl refl) refl (record { attempt = refl; kind_is = refl; content_is = refl }) refl,
   );
-  calls = record {
-    only = ((refl, refl) ▸ (refl, refl, refl) ▸ tt);
-    readings = lit≤ tt;
-    entries = lit≤ tt;
-    added = lit≤ tt;
-    written_last = (never_writes (m2 ∷ []) refl ▸ never_writes [] refl ▸ tt);
-  };
+  calls = (
+    record {
+      only = ((refl, refl) ▸ (refl, refl, refl) ▸ tt);
+      readings = lit≤ tt;
+      entries = lit≤ tt;
+      added = lit≤ tt;
+      written_last = (never_writes (m2 ∷ []) refl ▸ never_writes [] refl ▸ tt);
+    },
+    op_calls.unread refl,
+  );
   stands = ((λ e. ((when.At 0), refl)) ▸ (λ e. tt) ▸ tt);
   failed = (unfailed m3 refl ▸ unfailed m2 refl ▸ tt);
   in_time = (lit≤ tt ▸ lit≤ tt ▸ tt);
@@ -445,13 +449,16 @@ op_2_1_1_2-follows = follows_as (replaces-more-n1 doc_a refl) (record {
     );
     refused = refl;
   };
-  calls = record {
-    only = ((refl, refl) ▸ (refl, refl, refl) ▸ tt);
-    readings = lit≤ tt;
-    entries = lit≤ tt;
-    added = lit≤ tt;
-    written_last = (never_writes (m7 ∷ []) refl ▸ never_writes [] refl ▸ tt);
-  };
+  calls = (
+    record {
+      only = ((refl, refl) ▸ (refl, refl, refl) ▸ tt);
+      readings = lit≤ tt;
+      entries = lit≤ tt;
+      added = lit≤ tt;
+      written_last = (never_writes (m7 ∷ []) refl ▸ never_writes [] refl ▸ tt);
+    },
+    op_calls.unread refl,
+  );
   stands = ((λ e. absurd (no_bool (sym e))) ▸ (λ e. tt) ▸ tt);
   failed = (unfailed m8 refl ▸ unfailed m7 refl ▸ tt);
   in_time = (lit≤ tt ▸ lit≤ tt ▸ tt);
@@ -522,13 +529,16 @@ op_2_1_2_2-follows = follows_as (replaces-more-n2 doc_a refl) (record {
       ),
     ))) refl refl) refl (record { attempt = refl; kind_is = refl; content_is = refl }) refl,
   );
-  calls = record {
-    only = ((refl, refl) ▸ (refl, refl, refl) ▸ tt);
-    readings = lit≤ tt;
-    entries = lit≤ tt;
-    added = lit≤ tt;
-    written_last = (never_writes (m12 ∷ []) refl ▸ never_writes [] refl ▸ tt);
-  };
+  calls = (
+    record {
+      only = ((refl, refl) ▸ (refl, refl, refl) ▸ tt);
+      readings = lit≤ tt;
+      entries = lit≤ tt;
+      added = lit≤ tt;
+      written_last = (never_writes (m12 ∷ []) refl ▸ never_writes [] refl ▸ tt);
+    },
+    op_calls.unread refl,
+  );
   stands = ((λ e. ((when.At 11), refl)) ▸ (λ e. tt) ▸ tt);
   failed = (unfailed m13 refl ▸ unfailed m12 refl ▸ tt);
   in_time = (lit≤ tt ▸ lit≤ tt ▸ tt);

@@ -15,7 +15,7 @@ use Rattle.cbt_model.specs.declared.steps.Reply.TheVariants as reply
 use Rattle.cbt_model.specs.declared.steps.Reply.{Reply}
 use Rattle.cbt_model.specs.declared.steps.Step.TheVariants as step
 use Rattle.cbt_model.specs.declared.steps.Step.{Step}
-use Rattle.cbt_book.specs.Licence.{MayStand, on_nothing, on_unstaged, on_own, on_dead, MayEvict, MayDrop, MayResolve, ShowsDecided, IsDue, of_own, of_shown, MayUnstick, before_decision, after_abort, IsListed, Unstages, publishes, deletes, unsticks, Clears, unstaged, absent, free, of_another, moved_on, moved_from_own}
+use Rattle.cbt_book.specs.Licence.{MayStand, on_nothing, on_unstaged, on_own, on_dead, MayEvict, MayDrop, MayResolve, ShowsDecided, IsDue, of_own, of_shown, MayUnstick, before_decision, after_abort, IsListed, Unstages, publishes, deletes, unsticks, Clears, unstaged, absent, free, of_another, elsewhere, moved_on, moved_from_own}
 use Rattle.cbt_book.specs.OwnLists.{Once, Kept, In}
 use Rattle.cbt_book.specs.Passes.{is_expired}
 use Rattle.cbt_book.specs.Shown.{decides, ShowsStaged, by_read, by_stage, ReadsDoc, StagesAt, FindsNoEntry, ReadsRecord, ShowsEntry, alone, in_record, ShowsCommitted, committed_entry, own_commit, ShowsAborted, aborted_entry, own_abort, refused_abort}
@@ -147,6 +147,7 @@ about-clears a showing d m before (unstaged x is done was) = about-unstages d x 
 about-clears a showing d m before (absent h) = ap about h.0
 about-clears a showing d m before (free x body h) = ap about h.0
 about-clears a showing d m before (of_another x body stage h ne) = ap about h.0
+about-clears a showing d m before (elsewhere r x shown body stage is h ne) = ap about h.0
 about-clears a showing d m before (moved_on x have is refused h) = about-unstages d x m.step is
 about-clears a showing d m before (moved_from_own x have is refused h) = about-unstages d x m.step is
 

@@ -29,6 +29,7 @@ use Rattle.cbt_book.specs.declared.operations.When.TheVariants as when
 use Rattle.cbt_core.specs.Attempts as attempts
 use Rattle.cbt_core.specs.Clients.{FollowsPlan}
 use Rattle.cbt_core.specs.OpAnswers as answers
+use Rattle.cbt_core.specs.OpCalls as op_calls
 use Rattle.cbt_core.specs.Operations as operations
 use Rattle.cbt_core.specs.Runs.{own_of, identity_of, IsLegalRun, AreLicensed, LogsFollow, cleaner_plan}
 use Rattle.cbt_core.specs.Transactions as transactions
@@ -178,13 +179,16 @@ op_1_1_1_1-follows = follows_as (inserts-n1 _) (record {
     }) (stage_of (attempt_number 1 1 1) 12 Insert (Some (n 1))) refl (answers.on_own refl (ways.absent refl refl refl refl (inr (inr
         (inl (refl, (refl, refl)))))) refl) refl (record { attempt = refl; kind_is = refl; content_is = refl }) refl,
   );
-  calls = record {
-    only = ((refl, refl) ▸ (refl, refl, refl) ▸ refl ▸ tt);
-    readings = lit≤ tt;
-    entries = lit≤ tt;
-    added = lit≤ tt;
-    written_last = (never_writes past_1 refl ▸ never_writes past_0 refl ▸ never_writes [] refl ▸ tt);
-  };
+  calls = (
+    record {
+      only = ((refl, refl) ▸ (refl, refl, refl) ▸ refl ▸ tt);
+      readings = lit≤ tt;
+      entries = lit≤ tt;
+      added = lit≤ tt;
+      written_last = (never_writes past_1 refl ▸ never_writes past_0 refl ▸ never_writes [] refl ▸ tt);
+    },
+    op_calls.unserved refl refl,
+  );
   stands = ((λ e. ((when.At 0), refl)) ▸ (λ e. tt) ▸ (λ e. tt) ▸ tt);
   failed = (unfailed m2 refl ▸ unfailed m1 refl ▸ unfailed m0 refl ▸ tt);
   in_time = (lit≤ tt ▸ lit≤ tt ▸ lit≤ tt ▸ tt);
@@ -209,7 +213,7 @@ op_1_1_1_3-follows = follows_after (ap (walk.noted (op.Get doc_a name_x) op_1_1_
       counted = refl;
       spanned = record { follows = lit≤ tt; next = refl; ends = spans.without_calls refl refl };
       answered = (refl, (n 1, (record { kind = Insert; content = Some (n 1); place = 2 }, refl, refl)));
-      calls = record { only = tt; readings = lit≤ tt; entries = lit≤ tt; added = lit≤ tt; written_last = tt };
+      calls = (record { only = tt; readings = lit≤ tt; entries = lit≤ tt; added = lit≤ tt; written_last = tt }, op_calls.unread refl);
       stands = tt;
       failed = tt;
       in_time = tt;

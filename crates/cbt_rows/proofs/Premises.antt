@@ -5,23 +5,24 @@ use Rattle.cbt_model.specs.declared.events.Event.{Event}
 use Rattle.cbt_model.specs.declared.states.State.{State}
 use Rattle.cbt_book.specs.declared.book.Book.{Book}
 use Rattle.cbt_core.specs.Laws.{IsPass}
+use Rattle.cbt_core.specs.Lawful.{IsLawfulRun}
 use Rattle.cbt_core.specs.Openings.{IsSound, AreFresh}
-use Rattle.cbt_core.specs.Runs.{IsLegalRun, AreLicensed, LogsFollow}
+use Rattle.cbt_core.specs.Runs.{LogsFollow}
 use Rattle.cbt_core.specs.declared.case.Case.{Case}
 use Rattle.cbt_rows.proofs.CleanerFreesPendingStageTrial as trial
 use Rattle.cbt_rows.specs.CleanerFreesPendingStage.{opening, history, run_case, book, cleaner_1, round_1_1, pass_1_1_1}
 
 pub record Met (c : Case) (b : Book) : Type 0 where
-  pub legal : IsLegalRun c b
-  pub licensed : AreLicensed c b
-  pub sound : IsSound c.opening
-  pub fresh : AreFresh c.opening b.kept.history
+  pub lawful : IsLawfulRun c b
   pub follow : LogsFollow c b
 
 pub met : (c : Case) (b : Book) → c ≡ run_case → b ≡ book → ((s : State) → IsFresh s → IsSound s) → ((s : State) (h : List Event) → IsFresh s → AreFresh s h) → Met c b
 met c b case_is book_is sound fresh =
     subst (λ x. Met x b) (sym case_is) (subst (λ y. Met run_case y) (sym book_is)
-    (record { legal = trial.legal; licensed = trial.licensed; sound = sound opening trial.fresh; fresh = fresh opening history trial.fresh; follow = trial.follow }))
+    (record {
+      lawful = record { legal = trial.legal; licensed = trial.licensed; sound = sound opening trial.fresh; fresh = fresh opening history trial.fresh };
+      follow = trial.follow;
+    }))
 
 -- the cleaner's pass
 pub its_pass : IsPass book pass_1_1_1

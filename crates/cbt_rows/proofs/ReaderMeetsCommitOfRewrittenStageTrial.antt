@@ -29,6 +29,7 @@ use Rattle.cbt_book.specs.declared.operations.When.TheVariants as when
 use Rattle.cbt_core.specs.Attempts as attempts
 use Rattle.cbt_core.specs.Clients.{FollowsPlan}
 use Rattle.cbt_core.specs.OpAnswers as answers
+use Rattle.cbt_core.specs.OpCalls as op_calls
 use Rattle.cbt_core.specs.Operations as operations
 use Rattle.cbt_core.specs.Committed.{table_at}
 use Rattle.cbt_core.specs.Runs.{own_of, identity_of, IsLegalRun, AreLicensed, LogsFollow, cleaner_plan}
@@ -272,13 +273,16 @@ op_1_1_1_1-follows = follows_as (replaces-n2 _) (record {
     }) (stage_of (attempt_number 1 1 1) 0 Replace (Some (n 2))) refl (answers.on_own refl (ways.unstaged 1 refl refl refl (inr (inr (inl
         (refl, (refl, refl)))))) refl) refl (record { attempt = refl; kind_is = refl; content_is = refl }) refl,
   );
-  calls = record {
-    only = ((refl, refl) ▸ (refl, refl, refl) ▸ refl ▸ tt);
-    readings = lit≤ tt;
-    entries = lit≤ tt;
-    added = lit≤ tt;
-    written_last = (never_writes past_1 refl ▸ never_writes past_0 refl ▸ never_writes [] refl ▸ tt);
-  };
+  calls = (
+    record {
+      only = ((refl, refl) ▸ (refl, refl, refl) ▸ refl ▸ tt);
+      readings = lit≤ tt;
+      entries = lit≤ tt;
+      added = lit≤ tt;
+      written_last = (never_writes past_1 refl ▸ never_writes past_0 refl ▸ never_writes [] refl ▸ tt);
+    },
+    op_calls.unserved refl refl,
+  );
   stands = ((λ e. ((when.At 0), refl)) ▸ (λ e. tt) ▸ (λ e. tt) ▸ tt);
   failed = (unfailed m2 refl ▸ unfailed m1 refl ▸ unfailed m0 refl ▸ tt);
   in_time = (lit≤ tt ▸ lit≤ tt ▸ lit≤ tt ▸ tt);
@@ -304,7 +308,7 @@ op_1_1_1_2-follows = follows_after (noted_by walk.nothing_yet (replaces-n2 doc_a
       content_is = refl;
     }) refl,
   );
-  calls = record { only = ((refl, refl) ▸ tt); readings = lit≤ tt; entries = lit≤ tt; added = lit≤ tt; written_last = (never_writes [] refl ▸ tt) };
+  calls = (record { only = ((refl, refl) ▸ tt); readings = lit≤ tt; entries = lit≤ tt; added = lit≤ tt; written_last = (never_writes [] refl ▸ tt) }, op_calls.unread refl);
   stands = ((λ e. (when.Own, refl)) ▸ tt);
   failed = (unfailed m4 refl ▸ tt);
   in_time = (lit≤ tt ▸ tt);
@@ -419,13 +423,16 @@ op_2_1_1_2-follows = follows_as (inserts-got3 doc_seen refl) (record {
     }) (stage_of (attempt_number 2 1 1) 0 Insert (Some (got 3))) refl (answers.on_own refl (ways.absent refl refl refl refl (inr (inr
         (inl (refl, (refl, refl)))))) refl) refl (record { attempt = refl; kind_is = refl; content_is = refl }) refl,
   );
-  calls = record {
-    only = ((refl, refl) ▸ (refl, refl, refl) ▸ refl ▸ tt);
-    readings = lit≤ tt;
-    entries = lit≤ tt;
-    added = lit≤ tt;
-    written_last = (never_writes (m11 ∷ m10 ∷ []) refl ▸ never_writes (m10 ∷ []) refl ▸ never_writes [] refl ▸ tt);
-  };
+  calls = (
+    record {
+      only = ((refl, refl) ▸ (refl, refl, refl) ▸ refl ▸ tt);
+      readings = lit≤ tt;
+      entries = lit≤ tt;
+      added = lit≤ tt;
+      written_last = (never_writes (m11 ∷ m10 ∷ []) refl ▸ never_writes (m10 ∷ []) refl ▸ never_writes [] refl ▸ tt);
+    },
+    op_calls.unserved refl refl,
+  );
   stands = ((λ e. ((when.At 10), refl)) ▸ (λ e. tt) ▸ (λ e. tt) ▸ tt);
   failed = (unfailed m12 refl ▸ unfailed m11 refl ▸ unfailed m10 refl ▸ tt);
   in_time = (lit≤ tt ▸ lit≤ tt ▸ lit≤ tt ▸ tt);

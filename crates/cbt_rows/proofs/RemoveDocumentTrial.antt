@@ -28,6 +28,7 @@ use Rattle.cbt_book.specs.declared.operations.When.TheVariants as when
 use Rattle.cbt_core.specs.Attempts as attempts
 use Rattle.cbt_core.specs.Clients.{FollowsPlan}
 use Rattle.cbt_core.specs.OpAnswers as answers
+use Rattle.cbt_core.specs.OpCalls as op_calls
 use Rattle.cbt_core.specs.Operations as operations
 use Rattle.cbt_core.specs.Runs.{own_of, identity_of, IsLegalRun, AreLicensed, LogsFollow, cleaner_plan}
 use Rattle.cbt_core.specs.Transactions as transactions
@@ -184,13 +185,16 @@ op_1_1_1_1-follows = record {
       (refl, refl),
     ))))) refl) refl (record { attempt = refl; kind_is = refl; content_is = refl }) refl,
   );
-  calls = record {
-    only = ((refl, refl) ▸ (refl, refl, refl) ▸ refl ▸ tt);
-    readings = lit≤ tt;
-    entries = lit≤ tt;
-    added = lit≤ tt;
-    written_last = (never_writes past_1 refl ▸ never_writes past_0 refl ▸ never_writes [] refl ▸ tt);
-  };
+  calls = (
+    record {
+      only = ((refl, refl) ▸ (refl, refl, refl) ▸ refl ▸ tt);
+      readings = lit≤ tt;
+      entries = lit≤ tt;
+      added = lit≤ tt;
+      written_last = (never_writes past_1 refl ▸ never_writes past_0 refl ▸ never_writes [] refl ▸ tt);
+    },
+    op_calls.unserved refl refl,
+  );
   stands = ((λ e. ((when.At 0), refl)) ▸ (λ e. tt) ▸ (λ e. tt) ▸ tt);
   failed = (unfailed m2 refl ▸ unfailed m1 refl ▸ unfailed m0 refl ▸ tt);
   in_time = (lit≤ tt ▸ lit≤ tt ▸ lit≤ tt ▸ tt);

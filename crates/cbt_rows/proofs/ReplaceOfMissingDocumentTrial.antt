@@ -22,6 +22,7 @@ use Rattle.cbt_model.specs.Fresh.{IsFresh}
 use Rattle.cbt_book.specs.declared.operations.When.TheVariants as when
 use Rattle.cbt_core.specs.Attempts as attempts
 use Rattle.cbt_core.specs.Clients.{FollowsPlan}
+use Rattle.cbt_core.specs.OpCalls as op_calls
 use Rattle.cbt_core.specs.Operations as operations
 use Rattle.cbt_core.specs.Runs.{own_of, identity_of, IsLegalRun, AreLicensed, LogsFollow, cleaner_plan}
 use Rattle.cbt_core.specs.Transactions as transactions
@@ -117,7 +118,7 @@ op_1_1_1_1-follows = follows_as (replaces-n1 _) (record {
       moment_is = refl;
     },
   );
-  calls = record { only = (refl ▸ tt); readings = lit≤ tt; entries = lit≤ tt; added = lit≤ tt; written_last = (never_writes [] refl ▸ tt) };
+  calls = (record { only = (refl ▸ tt); readings = lit≤ tt; entries = lit≤ tt; added = lit≤ tt; written_last = (never_writes [] refl ▸ tt) }, op_calls.unserved refl refl);
   stands = ((λ e. tt) ▸ tt);
   failed = (unfailed m0 refl ▸ tt);
   in_time = (lit≤ tt ▸ tt);

@@ -28,7 +28,7 @@ pub record FollowsAs (t : AttemptTerms) (l : List Made) (at n : ℕ) (so : Sofar
   pub counted : log.op ≡ n
   pub spanned : IsSpan l at log.span
   pub answered : Answered t l so q (during log.span l) log.answer
-  pub calls : OpCalls t q (during log.span l)
+  pub calls : OpCalls t so q (during log.span l)
   pub stands : Each (λ m _. is_done m.answer.reply ≡ true → StandsAt m.answer.place log.answer m.step) (during log.span l)
   pub failed : Each (λ m _. m.answer.reply ≡ reply.Failed → log.answer ≡ answer.CallFailed m.answer.place) (during log.span l)
   pub in_time : Each (λ m _. m.answer.now ≤ t.latest) (during log.span l)
@@ -37,6 +37,11 @@ pub record FollowsAs (t : AttemptTerms) (l : List Made) (at n : ℕ) (so : Sofar
 pub record Asks (so : Sofar) (o : Op) (q : Request) : Type 0 where
   pub is : request_of so.bound o ≡ q
 
+-- the calls of an operation are those of what it asks for
+pub calls_as : (t : AttemptTerms) (calls : List Made) {so : Sofar} {o : Op} {q : Request} → Asks so o q → OpCalls t so q calls
+    → OpCalls t so (request_of so.bound o) calls
+calls_as t calls {so} asks it = subst (λ r. OpCalls t so r calls) (sym asks.is) it
+
 -- an operation follows by what it asks for
 pub follows_as : {t : AttemptTerms} {l : List Made} {at n : ℕ} {so : Sofar} {o : Op} {q : Request} {log : OpLog} → Asks so o q
     → FollowsAs t l at n so q log → OpFollows t l at n so o log
@@ -44,7 +49,7 @@ follows_as {t} {l} {at} {n} {so} {o} {q} {log} asks it = record {
   counted = it.counted;
   spanned = it.spanned;
   answered = subst (λ r. Answered t l so r (during log.span l) log.answer) (sym asks.is) it.answered;
-  calls = subst (λ r. OpCalls t r (during log.span l)) (sym asks.is) it.calls;
+  calls = calls_as t (during log.span l) asks it.calls;
   stands = it.stands;
   failed = it.failed;
   in_time = it.in_time;

@@ -24,11 +24,14 @@ use Rattle.cbt_expr.specs.declared.plans.Op.TheVariants as op
 use Rattle.cbt_model.specs.Fresh.{IsFresh}
 use Rattle.cbt_core.specs.Attempts as attempts
 use Rattle.cbt_core.specs.Clients.{FollowsPlan}
+use Rattle.cbt_core.specs.OpCalls as op_calls
 use Rattle.cbt_core.specs.Runs.{own_of, identity_of, IsLegalRun, AreLicensed, LogsFollow, cleaner_plan}
 use Rattle.cbt_core.specs.Transactions as transactions
+use Rattle.cbt_core.specs.Walk as walk
 use Rattle.cbt_core.specs.WriteSets.{numbered}
 use Rattle.cbt_rows.proofs.Named.{found-all, both_numbered, nothing, all_listed, named-abort, all_from, own-none, all_numbered, all_planned, one_value, not_me, ◌▸◌, by_number}
 use Rattle.cbt_rows.proofs.Never.{never_of, none_settled, never_writes, not_third, unfailed, no_bool, filled}
+use Rattle.cbt_rows.proofs.Requested.{calls_as, replaces-n2}
 use Rattle.cbt_rows.specs.Words.{HasValue, doc_a, n, lists_of}
 use Rattle.cbt_rows.specs.Written.{n_of}
 use Rattle.cbt_rows.specs.WriteExpires.{opening, past_0, past_1, past_2, history, marks, plans, run_case, book, e1, e2, e3, m0, m2, m3, made_1, plan_1_1, client_1, attempt_1_1_1}
@@ -142,13 +145,16 @@ attempt_1_1_1-follows = record {
     rest = [];
     left_is = refl;
     good = refl;
-    calls = record {
-      only = ((refl, refl, refl) ▸ refl ▸ tt);
-      readings = lit≤ tt;
-      entries = lit≤ tt;
-      added = lit≤ tt;
-      written_last = (never_writes past_0 refl ▸ never_writes [] refl ▸ tt);
-    };
+    calls = calls_as (transactions.attempt_terms txn_1_1-terms 1000 1) past_1 (replaces-n2 {so = walk.nothing_yet} doc_a) (
+      record {
+        only = ((refl, refl, refl) ▸ refl ▸ tt);
+        readings = lit≤ tt;
+        entries = lit≤ tt;
+        added = lit≤ tt;
+        written_last = (never_writes past_0 refl ▸ never_writes [] refl ▸ tt);
+      },
+      op_calls.unserved refl refl,
+    );
     in_time = (lit≤ tt ▸ tt);
     answered = (unfailed m0 refl ▸ tt);
     why = inl (lit< tt);

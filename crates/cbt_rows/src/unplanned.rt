@@ -3,6 +3,7 @@ ghost use Rattle.cbt_book.specs.declared.clients.TxnEnd.TheVariants as txn_end;
 ghost use Rattle.cbt_core.specs.Attempts.{HasEnded, IsCut, MayKeep, MayRollBack};
 ghost use Rattle.cbt_core.specs.Clients.{FollowsPlan, RunsOn};
 ghost use Rattle.cbt_core.specs.OpAnswers.{Carries, IsBlocked};
+ghost use Rattle.cbt_core.specs.OpCalls.{write_terms};
 ghost use Rattle.cbt_core.specs.Operations.{OpFollows};
 ghost use Rattle.cbt_core.specs.Transactions.{EndsTxn, IsRetried};
 ghost use Rattle.cbt_core.specs.Walk.{nothing_yet, noted};
@@ -38,7 +39,7 @@ pub fn needs_that_do_otherwise()
 pub fn calls_that_do_not_fit()
     ensures blocked { ¬ IsBlocked one_entry nothing_yet doc_a Replace first_attempt one_entry }
     ensures padded { ¬ GetCalls doc_a read_twice }
-    ensures another_record { ¬ MayWrite first_try doc_a (step.AddEntry 3 first_attempt 15000) }
+    ensures another_record { ¬ MayWrite (write_terms first_try) doc_a (step.AddEntry 3 first_attempt 15000) }
 {}
 
 /// A staging does not carry a write under another kind, nor for another attempt.

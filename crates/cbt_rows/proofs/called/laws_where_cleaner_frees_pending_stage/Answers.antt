@@ -7,25 +7,25 @@ use Rattle.cbt_rows.proofs.Premises.{met, its_pass}
 use Rattle.cbt_rows.proofs.called.laws_where_cleaner_frees_pending_stage.Goals as goal
 
 pub invariant-requires : goal.invariant-requires
-invariant-requires c = let it = met c.args.case.now c.args.book.now c.requires.this_case c.requires.this_book c.fresh_openings.ensures.sound c.fresh_openings.ensures.fresh in record { legal = it.legal; licensed = it.licensed; sound = it.sound; fresh = it.fresh }
+invariant-requires c = let it = met c.args.case.now c.args.book.now c.requires.this_case c.requires.this_book c.fresh_openings.ensures.sound c.fresh_openings.ensures.fresh in record { lawful = it.lawful }
 
 pub k1-requires : goal.k1-requires
-k1-requires c = let it = met c.args.case.now c.args.book.now c.requires.this_case c.requires.this_book c.fresh_openings.ensures.sound c.fresh_openings.ensures.fresh in record { legal = it.legal; licensed = it.licensed; sound = it.sound; fresh = it.fresh }
+k1-requires c = let it = met c.args.case.now c.args.book.now c.requires.this_case c.requires.this_book c.fresh_openings.ensures.sound c.fresh_openings.ensures.fresh in record { lawful = it.lawful }
 
 pub k2-requires : goal.k2-requires
-k2-requires c = let it = met c.args.case.now c.args.book.now c.requires.this_case c.requires.this_book c.fresh_openings.ensures.sound c.fresh_openings.ensures.fresh in record { legal = it.legal; licensed = it.licensed; sound = it.sound; fresh = it.fresh; follow = it.follow }
+k2-requires c = let it = met c.args.case.now c.args.book.now c.requires.this_case c.requires.this_book c.fresh_openings.ensures.sound c.fresh_openings.ensures.fresh in record { lawful = it.lawful; follow = it.follow }
 
 pub k3-requires : goal.k3-requires
-k3-requires c = let it = met c.args.case.now c.args.book.now c.requires.this_case c.requires.this_book c.fresh_openings.ensures.sound c.fresh_openings.ensures.fresh in record { legal = it.legal; licensed = it.licensed; sound = it.sound; fresh = it.fresh; follow = it.follow }
+k3-requires c = let it = met c.args.case.now c.args.book.now c.requires.this_case c.requires.this_book c.fresh_openings.ensures.sound c.fresh_openings.ensures.fresh in record { lawful = it.lawful; follow = it.follow }
 
 pub k4-requires : goal.k4-requires
-k4-requires c = let it = met c.args.case.now c.args.book.now c.requires.this_case c.requires.this_book c.fresh_openings.ensures.sound c.fresh_openings.ensures.fresh in record { legal = it.legal; licensed = it.licensed; sound = it.sound; fresh = it.fresh; follow = it.follow }
+k4-requires c = let it = met c.args.case.now c.args.book.now c.requires.this_case c.requires.this_book c.fresh_openings.ensures.sound c.fresh_openings.ensures.fresh in record { lawful = it.lawful; follow = it.follow }
 
 pub k5-requires : goal.k5-requires
-k5-requires c = let it = met c.args.case.now c.args.book.now c.requires.this_case c.requires.this_book c.fresh_openings.ensures.sound c.fresh_openings.ensures.fresh in record { legal = it.legal; licensed = it.licensed; sound = it.sound; fresh = it.fresh; follow = it.follow }
+k5-requires c = let it = met c.args.case.now c.args.book.now c.requires.this_case c.requires.this_book c.fresh_openings.ensures.sound c.fresh_openings.ensures.fresh in record { lawful = it.lawful; follow = it.follow }
 
 pub k6-requires : goal.k6-requires
-k6-requires c = let it = met c.args.case.now c.args.book.now c.requires.this_case c.requires.this_book c.fresh_openings.ensures.sound c.fresh_openings.ensures.fresh in record { legal = it.legal; licensed = it.licensed; sound = it.sound; fresh = it.fresh; follow = it.follow }
+k6-requires c = let it = met c.args.case.now c.args.book.now c.requires.this_case c.requires.this_book c.fresh_openings.ensures.sound c.fresh_openings.ensures.fresh in record { lawful = it.lawful; follow = it.follow }
 
 pub returns-clause-once : goal.returns-clause-once
 returns-clause-once c = subst (λ b. CommitsOnce b.kept.opening b.kept.history) c.requires.this_book c.k1.ensures.once

@@ -1,7 +1,6 @@
 use Rattle.std.proofs.Common.{inl, inr, [], ◌∷◌, Some, refl, lit≤}
 use Rattle.cbt_book.specs.Spans as spans
-use Rattle.cbt_book.specs.Outcomes.{ChangesHands}
-use Rattle.cbt_core.specs.OpAnswers.{once, again}
+use Rattle.cbt_book.specs.Outcomes.{ChangesHands, once, again}
 use Rattle.cbt_rows.proofs.Named.{◌▸◌}
 use Rattle.cbt_rows.proofs.Never.{differ, unfailed}
 use Rattle.cbt_rows.specs.Contended.{staging, committed, reads, asks}

@@ -3,12 +3,11 @@ use Rattle.cbt_model.specs.declared.documents.Stage.{Stage}
 use Rattle.cbt_model.specs.declared.documents.OpKind.TheVariants.{Replace}
 use Rattle.cbt_model.specs.declared.entries.EntryState.TheVariants.{Committed}
 use Rattle.cbt_model.specs.declared.events.Made.{Made}
-use Rattle.cbt_core.specs.OpAnswers.{once, again}
 use Rattle.cbt_rows.specs.Changes.{first_attempt, staged_again}
 use Rattle.cbt_rows.specs.ReaderMeetsCommitOfRewrittenStage as rewritten
 use Rattle.cbt_rows.specs.Words.{doc_a, n, stage_of, lists_of, entry_of}
 use Rattle.cbt_rows.proofs.Never.{differ}
-use Rattle.cbt_book.specs.Outcomes.{ChangesHands}
+use Rattle.cbt_book.specs.Outcomes.{ChangesHands, once, again}
 use Rattle.cbt_book.specs.Calls.{shown_cas}
 use Rattle.cbt_rows.proofs.misread.hands_that_change.Goals as goal
 

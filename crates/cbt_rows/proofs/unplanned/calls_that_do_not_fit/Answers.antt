@@ -14,4 +14,4 @@ above : 2 ≤ 1 → ⊥
 above h = omega arith
 
 pub returns : goal.returns
-returns c = record { blocked = λ it. too_few it.asked it.older it.calls_are it.four; padded = λ it. above it.readings; another_record = λ it. differ 3 12 refl it.1 }
+returns c = record { blocked = λ it. too_few it.asks.asked it.older it.asks.calls_are it.asks.four; padded = λ it. above it.readings; another_record = λ it. differ 3 12 refl it.1 }

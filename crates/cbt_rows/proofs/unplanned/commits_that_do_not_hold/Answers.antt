@@ -1,11 +1,10 @@
 use Rattle.std.proofs.Common.{◌≡◌, ℕ, inl, inr, [], ◌∷◌, refl, sym, true, false}
 use Rattle.cbt_model.specs.declared.steps.Reply.TheVariants as reply
-use Rattle.cbt_core.specs.Attempts.{told, read}
 use Rattle.cbt_rows.specs.Changes.{first_attempt}
 use Rattle.cbt_rows.specs.OneReplace as one
 use Rattle.cbt_rows.specs.SlowOwnerLosesItsEntry as slow
 use Rattle.cbt_rows.proofs.Never.{no_bool, no_entry_read, no_drop_sent}
-use Rattle.cbt_book.specs.Closing.{CommitHolds, IsFinished}
+use Rattle.cbt_book.specs.Closing.{CommitHolds, told, read, IsFinished}
 use Rattle.cbt_rows.proofs.unplanned.commits_that_do_not_hold.Goals as goal
 
 refused : {c : ℕ} → reply.NoEntry ≡ reply.Done c → ⊥
