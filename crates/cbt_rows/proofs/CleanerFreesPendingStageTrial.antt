@@ -33,6 +33,8 @@ use Rattle.cbt_core.specs.OpAnswers as answers
 use Rattle.cbt_core.specs.OpCalls as op_calls
 use Rattle.cbt_core.specs.Operations as operations
 use Rattle.cbt_core.specs.Runs.{own_of, identity_of, IsLegalRun, AreLicensed, LogsFollow, cleaner_plan}
+use Rattle.cbt_core.specs.Stops as stops
+use Rattle.cbt_core.specs.Stops.{HasCall, LastHasCall, StopsKept}
 use Rattle.cbt_core.specs.Transactions as transactions
 use Rattle.cbt_core.specs.Walk as walk
 use Rattle.cbt_core.specs.WriteSets.{numbered}
@@ -40,9 +42,10 @@ use Rattle.cbt_rows.proofs.Fits.{fits-n2, fits-n3}
 use Rattle.cbt_rows.proofs.Named.{found-all, all_in, both_numbered, nothing, all_listed, named, all_from, own-none, all_numbered, all_planned, one_value, not_me, ◌▸◌, ◌▹◌, by_number}
 use Rattle.cbt_rows.proofs.Never.{never_of, none_settled, done, not_of, never_writes, never_resolved, not_third, unfailed, no_bool}
 use Rattle.cbt_rows.proofs.Requested.{follows_as, noted_by, replaces-n2, replaces-n3, table_by}
+use Rattle.cbt_rows.proofs.Stops.{runs_on, clients_stopped, within_one, stopped_before_closing}
 use Rattle.cbt_rows.specs.Words.{HasValue, doc_a, n, stage_of, lists_of, entry_of}
 use Rattle.cbt_rows.specs.Written.{n_of}
-use Rattle.cbt_rows.specs.CleanerFreesPendingStage.{opening, past_0, past_1, past_3, past_5, past_7, past_8, past_9, past_10, past_11, past_12, past_13, history, marks, plans, run_case, book, e1, e2, e4, e6, e10, e11, e12, e13, e14, m0, m1, m2, m3, m4, m5, m6, m7, m8, m9, m10, m11, m12, m13, m14, made_1, made_2, made_3, plan_1_1, plan_2_1, client_1, attempt_1_1_1, op_1_1_1_1, client_2, attempt_2_1_1, op_2_1_1_1, cleaner_1}
+use Rattle.cbt_rows.specs.CleanerFreesPendingStage.{opening, past_0, past_1, past_3, past_5, past_7, past_8, past_9, past_10, past_11, past_12, past_13, history, marks, plans, run_case, book, e1, e2, e4, e6, e10, e11, e12, e13, e14, m0, m1, m2, m3, m4, m5, m6, m7, m8, m9, m10, m11, m12, m13, m14, made_1, made_2, made_3, plan_1_1, plan_2_1, client_1, txn_1_1, attempt_1_1_1, op_1_1_1_1, client_2, attempt_2_1_1, op_2_1_1_1, cleaner_1}
 
 own-1 : own_of book 1 ≡ made_1
 unfolding row clock_of
@@ -473,6 +476,17 @@ follow = record {
   clients = record { all = refl; each = clients };
   cleaners = record { all = refl; each = rounds; sweep = λ ms log is at. absurd (nothing is) };
 }
+
+attempt_1_1_1-stopped : HasCall (transactions.attempt_terms txn_1_1-terms 1000 1) made_1 0 attempt_1_1_1
+unfolding attempt_1_1_1-follows
+attempt_1_1_1-stopped = stopped_before_closing (transactions.attempt_terms txn_1_1-terms 1000 1) made_1 0 attempt_1_1_1 attempt_1_1_1-follows refl refl
+    (inr (inl refl)) (stops.all_answered refl)
+
+pub stops_kept : StopsKept run_case book
+stops_kept = clients_stopped run_case book (within_one run_case book 1 3 refl (subst (λ l. length l ≤ 3) (sym own-1) (lit≤ tt))) refl ((λ h. (
+  refl,
+  subst (λ l. LastHasCall 1 1 l 0 1 (plan_1_1 ∷ []) (txn_1_1 ∷ [])) (sym own-1) (stops.in_try [] attempt_1_1_1 refl attempt_1_1_1-stopped),
+)) ▸ runs_on client_2.txns refl ▸ tt)
 
 pub after-drop : HasValue run_case book 7 doc_a (Some (n 1))
 unfolding row clock_of

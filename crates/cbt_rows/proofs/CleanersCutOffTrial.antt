@@ -16,9 +16,11 @@ use Rattle.cbt_book.specs.Passes as passes
 use Rattle.cbt_book.specs.Spans as spans
 use Rattle.cbt_core.specs.Clients.{FollowsPlan}
 use Rattle.cbt_core.specs.Runs.{own_of, identity_of, IsLegalRun, AreLicensed, LogsFollow, cleaner_plan}
+use Rattle.cbt_core.specs.Stops.{StopsKept}
 use Rattle.cbt_core.specs.WriteSets.{numbered}
 use Rattle.cbt_rows.proofs.Named.{found-all, all_in, both_numbered, nothing, all_from, own-none, all_numbered, all_planned, one_value, not_me, ◌▸◌, by_number}
 use Rattle.cbt_rows.proofs.Never.{unfailed, no_bool}
+use Rattle.cbt_rows.proofs.Stops.{ClientKeeps, CleanerKeeps, within_one}
 use Rattle.cbt_rows.specs.Words.{HasValue, doc_a}
 use Rattle.cbt_rows.specs.CleanersCutOff.{opening, past_0, past_4, history, marks, plans, run_case, book, e1, e5, m0, m1, m2, m3, m4, m5, made_1, made_2, cleaner_1, cleaner_2}
 
@@ -208,6 +210,18 @@ pub follow : LogsFollow run_case book
 follow = record {
   clients = record { all = refl; each = clients };
   cleaners = record { all = refl; each = rounds; sweep = λ ms log is at. absurd (nothing is) };
+}
+
+pub stops_kept : StopsKept run_case book
+stops_kept = record {
+  within = within_one run_case book 1 5 refl (subst (λ l. length l ≤ 5) (sym own-1) (lit≤ tt));
+  client = both_numbered (ClientKeeps run_case book) run_case.plans book.clients tt;
+  cleaner = both_numbered (CleanerKeeps run_case book) run_case.rounds book.cleaners ((λ h. (
+    refl,
+    subst (λ l. cleaners.AtLast (cleaners.HasNext (cleaner_plan run_case 1 2) l) cleaner_1.rounds) (sym own-1)
+        (cleaners.to_pass (record { index = 0; of = 1 }) refl (lit< tt)),
+  )) ▸ (λ h. absurd (no_bool (sym h))) ▸ tt);
+  sweep = λ log is. absurd (nothing is);
 }
 
 pub at-end : HasValue run_case book 6 doc_a None

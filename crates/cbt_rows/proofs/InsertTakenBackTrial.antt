@@ -31,6 +31,7 @@ use Rattle.cbt_core.specs.OpAnswers as answers
 use Rattle.cbt_core.specs.OpCalls as op_calls
 use Rattle.cbt_core.specs.Operations as operations
 use Rattle.cbt_core.specs.Runs.{own_of, identity_of, IsLegalRun, AreLicensed, LogsFollow, cleaner_plan}
+use Rattle.cbt_core.specs.Stops.{StopsKept}
 use Rattle.cbt_core.specs.Transactions as transactions
 use Rattle.cbt_core.specs.Walk as walk
 use Rattle.cbt_core.specs.WriteSets.{numbered}
@@ -38,6 +39,7 @@ use Rattle.cbt_rows.proofs.Fits.{fits-n1, fits-n9}
 use Rattle.cbt_rows.proofs.Named.{found-all, both_numbered, nothing, all_listed, named, all_from, own-none, all_numbered, all_planned, one_value, not_me, ◌▸◌, ◌▹◌, by_number, taken_back}
 use Rattle.cbt_rows.proofs.Never.{never_of, none_settled, done, not_of, never_writes, never_resolved, not_third, unfailed, no_bool, unsticks_own_pf}
 use Rattle.cbt_rows.proofs.Requested.{follows_after, follows_as, inserts-n1, inserts-n9, noted_by, table_by}
+use Rattle.cbt_rows.proofs.Stops.{none_stopped}
 use Rattle.cbt_rows.specs.Words.{HasValue, doc_a, n, stage_of, lists_of}
 use Rattle.cbt_rows.specs.Written.{n_of}
 use Rattle.cbt_rows.specs.InsertTakenBack.{opening, past_0, past_1, past_2, past_3, past_4, past_5, past_6, past_7, past_8, past_10, history, marks, plans, run_case, book, e1, e2, e3, e5, e6, e7, e8, e9, e10, e11, m0, m1, m2, m3, m4, m5, m6, m7, m8, m9, m10, m11, made_1, made_2, plan_1_1, plan_2_1, client_1, attempt_1_1_1, op_1_1_1_1, op_1_1_1_2, client_2, attempt_2_1_1, op_2_1_1_1}
@@ -427,6 +429,9 @@ follow = record {
   clients = record { all = refl; each = clients };
   cleaners = record { all = refl; each = rounds; sweep = λ ms log is at. absurd (nothing is) };
 }
+
+pub stops_kept : StopsKept run_case book
+stops_kept = none_stopped run_case book refl refl refl
 
 pub before-commit : HasValue run_case book 7 doc_a None
 unfolding row clock_of

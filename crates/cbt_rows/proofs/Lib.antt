@@ -3,6 +3,7 @@ pub mod Named
 pub mod Fits
 pub mod WrittenValues
 pub mod Requested
+pub mod Stops
 pub mod Needs
 pub mod Readings
 pub mod OneReplaceTrial

@@ -24,12 +24,14 @@ use Rattle.cbt_core.specs.Clients.{FollowsPlan}
 use Rattle.cbt_core.specs.OpCalls as op_calls
 use Rattle.cbt_core.specs.Operations as operations
 use Rattle.cbt_core.specs.Runs.{own_of, identity_of, IsLegalRun, AreLicensed, LogsFollow, cleaner_plan}
+use Rattle.cbt_core.specs.Stops.{StopsKept}
 use Rattle.cbt_core.specs.Transactions as transactions
 use Rattle.cbt_core.specs.Walk as walk
 use Rattle.cbt_core.specs.WriteSets.{numbered}
 use Rattle.cbt_rows.proofs.Named.{found-all, both_numbered, nothing, named-abort, all_from, own-none, all_numbered, all_planned, one_value, not_me, ◌▸◌, by_number}
 use Rattle.cbt_rows.proofs.Never.{never_of, none_settled, never_writes, not_third, unfailed, no_bool}
 use Rattle.cbt_rows.proofs.Requested.{follows_as, replaces-n2}
+use Rattle.cbt_rows.proofs.Stops.{none_stopped}
 use Rattle.cbt_rows.specs.Words.{HasValue, doc_a, n, lists_of}
 use Rattle.cbt_rows.specs.Written.{n_of}
 use Rattle.cbt_rows.specs.LostEntryIsRolledBack.{opening, past_0, past_1, history, marks, plans, run_case, book, e1, e2, m0, m1, m2, made_1, plan_1_1, client_1, attempt_1_1_1, op_1_1_1_1}
@@ -186,6 +188,9 @@ follow = record {
   clients = record { all = refl; each = clients };
   cleaners = record { all = refl; each = rounds; sweep = λ ms log is at. absurd (nothing is) };
 }
+
+pub stops_kept : StopsKept run_case book
+stops_kept = none_stopped run_case book refl refl refl
 
 pub at-end : HasValue run_case book 3 doc_a (Some (n 1))
 unfolding row clock_of

@@ -22,12 +22,14 @@ use Rattle.cbt_core.specs.Attempts as attempts
 use Rattle.cbt_core.specs.Clients.{FollowsPlan}
 use Rattle.cbt_core.specs.Operations as operations
 use Rattle.cbt_core.specs.Runs.{own_of, identity_of, IsLegalRun, AreLicensed, LogsFollow, cleaner_plan}
+use Rattle.cbt_core.specs.Stops.{StopsKept}
 use Rattle.cbt_core.specs.Transactions as transactions
 use Rattle.cbt_core.specs.Walk as walk
 use Rattle.cbt_core.specs.WriteSets.{numbered}
 use Rattle.cbt_rows.proofs.Named.{found-all, both_numbered, nothing, all_from, own-none, all_numbered, all_planned, one_value, ◌▸◌, by_number}
 use Rattle.cbt_rows.proofs.Never.{never_of, not_third, no_bool}
 use Rattle.cbt_rows.proofs.WrittenValues.{one_is_two-false}
+use Rattle.cbt_rows.proofs.Stops.{none_stopped}
 use Rattle.cbt_rows.specs.Words.{HasValue, doc_a}
 use Rattle.cbt_rows.specs.Written.{one_is_two}
 use Rattle.cbt_rows.specs.NeedFalse.{opening, history, marks, plans, run_case, book, made_1, plan_1_1, client_1, attempt_1_1_1, op_1_1_1_1}
@@ -162,6 +164,9 @@ follow = record {
   clients = record { all = refl; each = clients };
   cleaners = record { all = refl; each = rounds; sweep = λ ms log is at. absurd (nothing is) };
 }
+
+pub stops_kept : StopsKept run_case book
+stops_kept = none_stopped run_case book refl refl refl
 
 pub at-end : HasValue run_case book 0 doc_a None
 unfolding row clock_of

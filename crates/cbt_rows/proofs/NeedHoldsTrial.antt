@@ -20,6 +20,7 @@ use Rattle.cbt_core.specs.OpAnswers as answers
 use Rattle.cbt_core.specs.OpCalls as op_calls
 use Rattle.cbt_core.specs.Operations as operations
 use Rattle.cbt_core.specs.Runs.{own_of, IsLegalRun, AreLicensed, LogsFollow, cleaner_plan}
+use Rattle.cbt_core.specs.Stops.{StopsKept}
 use Rattle.cbt_core.specs.Transactions as transactions
 use Rattle.cbt_core.specs.Walk as walk
 use Rattle.cbt_core.specs.WriteSets.{numbered}
@@ -27,6 +28,7 @@ use Rattle.cbt_rows.proofs.WrittenValues.{x_is_one-true}
 use Rattle.cbt_rows.proofs.Requested.{follows_as, noted_by, table_by, replaces-more-n2}
 use Rattle.cbt_rows.proofs.Named.{both_numbered, nothing, all_numbered, all_planned, ◌▸◌, ◌▹◌}
 use Rattle.cbt_rows.proofs.Never.{never_of, not_of, never_writes, never_resolved, not_third, unfailed, no_bool}
+use Rattle.cbt_rows.proofs.Stops.{none_stopped}
 use Rattle.cbt_rows.specs.Words.{HasValue, doc_a, name_x, n, stage_of, lists_of, span_of}
 use Rattle.cbt_rows.specs.Written.{one_more, x_is_one}
 use Rattle.cbt_rows.specs.OneReplace.{opening, m0, m1, m2, m3, m4, m5, made_1}
@@ -196,6 +198,9 @@ follow = record {
   clients = record { all = refl; each = clients };
   cleaners = record { all = refl; each = rounds; sweep = λ ms log is at. absurd (nothing is) };
 }
+
+pub stops_kept : StopsKept run_case book
+stops_kept = none_stopped run_case book refl refl refl
 
 -- what the attempt's answers leave
 kept : walk.noted (op.Replace doc_a one_more) op_1_1_1_3 (walk.noted (op.Get doc_a name_x) op_1_1_1_1 walk.nothing_yet)

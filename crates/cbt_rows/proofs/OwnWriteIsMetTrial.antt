@@ -32,6 +32,7 @@ use Rattle.cbt_core.specs.OpAnswers as answers
 use Rattle.cbt_core.specs.OpCalls as op_calls
 use Rattle.cbt_core.specs.Operations as operations
 use Rattle.cbt_core.specs.Runs.{own_of, identity_of, IsLegalRun, AreLicensed, LogsFollow, cleaner_plan}
+use Rattle.cbt_core.specs.Stops.{StopsKept}
 use Rattle.cbt_core.specs.Transactions as transactions
 use Rattle.cbt_core.specs.Walk as walk
 use Rattle.cbt_core.specs.WriteSets.{numbered}
@@ -39,6 +40,7 @@ use Rattle.cbt_rows.proofs.Fits.{fits-n1}
 use Rattle.cbt_rows.proofs.Named.{found-all, both_numbered, nothing, all_listed, named-abort, all_from, own-none, all_numbered, all_planned, one_value, not_me, ◌▸◌, ◌▹◌, by_number}
 use Rattle.cbt_rows.proofs.Never.{never_of, none_settled, not_of, never_writes, not_third, unfailed, no_bool, never_unstuck}
 use Rattle.cbt_rows.proofs.Requested.{follows_after, follows_as, inserts-n1, inserts-n2, noted_by}
+use Rattle.cbt_rows.proofs.Stops.{none_stopped}
 use Rattle.cbt_rows.specs.Words.{HasValue, doc_a, name_x, n, stage_of, lists_of}
 use Rattle.cbt_rows.specs.Written.{n_of}
 use Rattle.cbt_rows.specs.OwnWriteIsMet.{opening, past_0, past_1, past_2, past_3, past_4, history, marks, plans, run_case, book, e1, e2, e3, e4, e5, m0, m1, m2, m3, m4, m5, made_1, plan_1_1, client_1, attempt_1_1_1, op_1_1_1_1, op_1_1_1_2, op_1_1_1_3}
@@ -282,6 +284,9 @@ follow = record {
   clients = record { all = refl; each = clients };
   cleaners = record { all = refl; each = rounds; sweep = λ ms log is at. absurd (nothing is) };
 }
+
+pub stops_kept : StopsKept run_case book
+stops_kept = none_stopped run_case book refl refl refl
 
 pub at-end : HasValue run_case book 6 doc_a None
 unfolding row clock_of

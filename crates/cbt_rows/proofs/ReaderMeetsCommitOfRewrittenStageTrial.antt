@@ -33,6 +33,7 @@ use Rattle.cbt_core.specs.OpCalls as op_calls
 use Rattle.cbt_core.specs.Operations as operations
 use Rattle.cbt_core.specs.Committed.{table_at}
 use Rattle.cbt_core.specs.Runs.{own_of, identity_of, IsLegalRun, AreLicensed, LogsFollow, cleaner_plan}
+use Rattle.cbt_core.specs.Stops.{StopsKept}
 use Rattle.cbt_core.specs.Transactions as transactions
 use Rattle.cbt_core.specs.Walk as walk
 use Rattle.cbt_core.specs.WriteSets.{numbered, write_set}
@@ -40,6 +41,7 @@ use Rattle.cbt_rows.proofs.Fits.{fits-n2, fits-n3, fits-got3}
 use Rattle.cbt_rows.proofs.Named.{found-all, both_numbered, nothing, all_listed, named, all_from, own-none, all_numbered, all_planned, one_value, not_me, ◌▸◌, ◌▹◌, by_number}
 use Rattle.cbt_rows.proofs.Never.{never_of, none_settled, done, not_of, never_writes, never_resolved, not_third, unfailed, no_bool}
 use Rattle.cbt_rows.proofs.Requested.{follows_after, follows_as, inserts-got3, noted_by, replaces-n2, replaces-n3, table_by, then_noted}
+use Rattle.cbt_rows.proofs.Stops.{none_stopped}
 use Rattle.cbt_rows.specs.Words.{HasValue, doc_a, doc_seen, name_x, n, got, stage_of, lists_of, entry_of}
 use Rattle.cbt_rows.specs.Written.{got_x, n_of}
 use Rattle.cbt_rows.specs.ReaderMeetsCommitOfRewrittenStage.{opening, past_0, past_1, past_2, past_4, past_5, past_10, past_11, past_12, past_13, past_14, past_16, history, marks, plans, run_case, book, e1, e2, e4, e5, e11, e12, e13, e14, e15, e16, e17, m0, m1, m2, m3, m4, m5, m6, m7, m8, m9, m10, m11, m12, m13, m14, m15, m16, m17, made_1, made_2, plan_1_1, plan_2_1, client_1, attempt_1_1_1, op_1_1_1_1, op_1_1_1_2, client_2, attempt_2_1_1, op_2_1_1_1, op_2_1_1_2}
@@ -512,6 +514,9 @@ follow = record {
   clients = record { all = refl; each = clients };
   cleaners = record { all = refl; each = rounds; sweep = λ ms log is at. absurd (nothing is) };
 }
+
+pub stops_kept : StopsKept run_case book
+stops_kept = none_stopped run_case book refl refl refl
 
 pub before-commit : HasValue run_case book 5 doc_a (Some (n 1))
 unfolding row clock_of

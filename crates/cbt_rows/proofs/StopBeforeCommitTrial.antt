@@ -27,6 +27,8 @@ use Rattle.cbt_core.specs.OpAnswers as answers
 use Rattle.cbt_core.specs.OpCalls as op_calls
 use Rattle.cbt_core.specs.Operations as operations
 use Rattle.cbt_core.specs.Runs.{own_of, identity_of, IsLegalRun, AreLicensed, LogsFollow, cleaner_plan}
+use Rattle.cbt_core.specs.Stops as stops
+use Rattle.cbt_core.specs.Stops.{HasCall, LastHasCall, StopsKept}
 use Rattle.cbt_core.specs.Transactions as transactions
 use Rattle.cbt_core.specs.Walk as walk
 use Rattle.cbt_core.specs.WriteSets.{numbered}
@@ -34,9 +36,10 @@ use Rattle.cbt_rows.proofs.Fits.{fits-n2}
 use Rattle.cbt_rows.proofs.Named.{found-all, both_numbered, nothing, all_from, own-none, all_numbered, all_planned, one_value, not_me, ◌▸◌, by_number}
 use Rattle.cbt_rows.proofs.Never.{never_of, never_writes, not_third, unfailed, no_bool}
 use Rattle.cbt_rows.proofs.Requested.{follows_as, replaces-n2}
+use Rattle.cbt_rows.proofs.Stops.{clients_stopped, within_one, stopped_before_closing}
 use Rattle.cbt_rows.specs.Words.{HasValue, doc_a, n, stage_of}
 use Rattle.cbt_rows.specs.Written.{n_of}
-use Rattle.cbt_rows.specs.StopBeforeCommit.{opening, past_0, past_1, history, marks, plans, run_case, book, e1, e2, m0, m1, m2, made_1, plan_1_1, client_1, attempt_1_1_1, op_1_1_1_1}
+use Rattle.cbt_rows.specs.StopBeforeCommit.{opening, past_0, past_1, history, marks, plans, run_case, book, e1, e2, m0, m1, m2, made_1, plan_1_1, client_1, txn_1_1, attempt_1_1_1, op_1_1_1_1}
 
 own-1 : own_of book 1 ≡ made_1
 unfolding row clock_of
@@ -198,6 +201,17 @@ follow = record {
   clients = record { all = refl; each = clients };
   cleaners = record { all = refl; each = rounds; sweep = λ ms log is at. absurd (nothing is) };
 }
+
+attempt_1_1_1-stopped : HasCall (transactions.attempt_terms txn_1_1-terms 1000 1) made_1 0 attempt_1_1_1
+unfolding attempt_1_1_1-follows
+attempt_1_1_1-stopped = stopped_before_closing (transactions.attempt_terms txn_1_1-terms 1000 1) made_1 0 attempt_1_1_1 attempt_1_1_1-follows refl refl
+    (inr (inl refl)) (stops.all_answered refl)
+
+pub stops_kept : StopsKept run_case book
+stops_kept = clients_stopped run_case book (within_one run_case book 1 3 refl (subst (λ l. length l ≤ 3) (sym own-1) (lit≤ tt))) refl ((λ h. (
+  refl,
+  subst (λ l. LastHasCall 1 16 l 0 1 (plan_1_1 ∷ []) (txn_1_1 ∷ [])) (sym own-1) (stops.in_try [] attempt_1_1_1 refl attempt_1_1_1-stopped),
+)) ▸ tt)
 
 pub at-end : HasValue run_case book 3 doc_a (Some (n 1))
 unfolding row clock_of

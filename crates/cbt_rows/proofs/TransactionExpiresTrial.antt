@@ -23,11 +23,13 @@ use Rattle.cbt_core.specs.Attempts as attempts
 use Rattle.cbt_core.specs.Clients.{FollowsPlan}
 use Rattle.cbt_core.specs.Operations as operations
 use Rattle.cbt_core.specs.Runs.{own_of, identity_of, IsLegalRun, AreLicensed, LogsFollow, cleaner_plan}
+use Rattle.cbt_core.specs.Stops.{StopsKept}
 use Rattle.cbt_core.specs.Transactions as transactions
 use Rattle.cbt_core.specs.Walk as walk
 use Rattle.cbt_core.specs.WriteSets.{numbered}
 use Rattle.cbt_rows.proofs.Named.{found-all, both_numbered, nothing, all_from, own-none, all_numbered, all_planned, one_value, not_me, ◌▸◌, by_number}
 use Rattle.cbt_rows.proofs.Never.{never_of, not_third, unfailed, no_bool, filled}
+use Rattle.cbt_rows.proofs.Stops.{none_stopped}
 use Rattle.cbt_rows.specs.Words.{HasValue, doc_a, doc_b, name_x, name_y, n}
 use Rattle.cbt_rows.specs.TransactionExpires.{opening, past_1, history, marks, plans, run_case, book, m0, m1, made_1, plan_1_1, client_1, attempt_1_1_1, op_1_1_1_1}
 
@@ -181,6 +183,9 @@ follow = record {
   clients = record { all = refl; each = clients };
   cleaners = record { all = refl; each = rounds; sweep = λ ms log is at. absurd (nothing is) };
 }
+
+pub stops_kept : StopsKept run_case book
+stops_kept = none_stopped run_case book refl refl refl
 
 pub at-end : HasValue run_case book 2 doc_a (Some (n 1))
 unfolding row clock_of

@@ -2,6 +2,7 @@
 ghost use Rattle.std.specs.Prelude.{Some, None};
 ghost use Rattle.cbt_model.specs.Fresh.{IsFresh};
 ghost use Rattle.cbt_core.specs.Runs.{IsLegalRun, AreLicensed, LogsFollow};
+ghost use Rattle.cbt_core.specs.Stops.{StopsKept};
 ghost use Rattle.cbt_rows.specs.Words.{HasValue, doc_a, doc_b, doc_seen, doc_z, n, got};
 ghost use Rattle.cbt_rows.specs.OneReplace;
 ghost use Rattle.cbt_rows.specs.StopBeforeCommit;
@@ -45,6 +46,7 @@ pub fn one_replace()
     ensures legal { IsLegalRun OneReplace.run_case OneReplace.book }
     ensures licensed { AreLicensed OneReplace.run_case OneReplace.book }
     ensures follow { LogsFollow OneReplace.run_case OneReplace.book }
+    ensures kept { StopsKept OneReplace.run_case OneReplace.book }
     ensures before_commit { HasValue OneReplace.run_case OneReplace.book 3 doc_a (Some (n 1)) }
     ensures after_commit { HasValue OneReplace.run_case OneReplace.book 4 doc_a (Some (n 2)) }
     ensures at_end { HasValue OneReplace.run_case OneReplace.book 6 doc_a (Some (n 2)) }
@@ -56,6 +58,7 @@ pub fn stop_before_commit()
     ensures legal { IsLegalRun StopBeforeCommit.run_case StopBeforeCommit.book }
     ensures licensed { AreLicensed StopBeforeCommit.run_case StopBeforeCommit.book }
     ensures follow { LogsFollow StopBeforeCommit.run_case StopBeforeCommit.book }
+    ensures kept { StopsKept StopBeforeCommit.run_case StopBeforeCommit.book }
     ensures at_end { HasValue StopBeforeCommit.run_case StopBeforeCommit.book 3 doc_a (Some (n 1)) }
 {}
 
@@ -65,6 +68,7 @@ pub fn stop_after_commit()
     ensures legal { IsLegalRun StopAfterCommit.run_case StopAfterCommit.book }
     ensures licensed { AreLicensed StopAfterCommit.run_case StopAfterCommit.book }
     ensures follow { LogsFollow StopAfterCommit.run_case StopAfterCommit.book }
+    ensures kept { StopsKept StopAfterCommit.run_case StopAfterCommit.book }
     ensures before_commit { HasValue StopAfterCommit.run_case StopAfterCommit.book 3 doc_a
         (Some (n 1)) }
     ensures at_end { HasValue StopAfterCommit.run_case StopAfterCommit.book 4 doc_a (Some (n 2)) }
@@ -76,6 +80,7 @@ pub fn reader_before_commit()
     ensures legal { IsLegalRun ReaderBeforeCommit.run_case ReaderBeforeCommit.book }
     ensures licensed { AreLicensed ReaderBeforeCommit.run_case ReaderBeforeCommit.book }
     ensures follow { LogsFollow ReaderBeforeCommit.run_case ReaderBeforeCommit.book }
+    ensures kept { StopsKept ReaderBeforeCommit.run_case ReaderBeforeCommit.book }
     ensures before_commit { HasValue ReaderBeforeCommit.run_case ReaderBeforeCommit.book 3 doc_a
         (Some (n 1)) }
     ensures at_moment { HasValue ReaderBeforeCommit.run_case ReaderBeforeCommit.book 6 doc_a
@@ -93,6 +98,7 @@ pub fn reader_meets_commit_of_rewritten_stage()
         ReaderMeetsCommitOfRewrittenStage.book }
     ensures follow { LogsFollow ReaderMeetsCommitOfRewrittenStage.run_case
         ReaderMeetsCommitOfRewrittenStage.book }
+    ensures kept { StopsKept ReaderMeetsCommitOfRewrittenStage.run_case ReaderMeetsCommitOfRewrittenStage.book }
     ensures before_commit { HasValue ReaderMeetsCommitOfRewrittenStage.run_case
         ReaderMeetsCommitOfRewrittenStage.book 5 doc_a (Some (n 1)) }
     ensures after_commit { HasValue ReaderMeetsCommitOfRewrittenStage.run_case
@@ -109,6 +115,7 @@ pub fn cleaner_frees_pending_stage()
     ensures legal { IsLegalRun CleanerFreesPendingStage.run_case CleanerFreesPendingStage.book }
     ensures licensed { AreLicensed CleanerFreesPendingStage.run_case CleanerFreesPendingStage.book }
     ensures follow { LogsFollow CleanerFreesPendingStage.run_case CleanerFreesPendingStage.book }
+    ensures kept { StopsKept CleanerFreesPendingStage.run_case CleanerFreesPendingStage.book }
     ensures after_drop { HasValue CleanerFreesPendingStage.run_case CleanerFreesPendingStage.book 7
         doc_a (Some (n 1)) }
     ensures before_commit { HasValue CleanerFreesPendingStage.run_case CleanerFreesPendingStage.book
@@ -123,6 +130,7 @@ pub fn slow_owner_loses_its_entry()
     ensures legal { IsLegalRun SlowOwnerLosesItsEntry.run_case SlowOwnerLosesItsEntry.book }
     ensures licensed { AreLicensed SlowOwnerLosesItsEntry.run_case SlowOwnerLosesItsEntry.book }
     ensures follow { LogsFollow SlowOwnerLosesItsEntry.run_case SlowOwnerLosesItsEntry.book }
+    ensures kept { StopsKept SlowOwnerLosesItsEntry.run_case SlowOwnerLosesItsEntry.book }
     ensures after_lost_commit { HasValue SlowOwnerLosesItsEntry.run_case SlowOwnerLosesItsEntry.book
         10 doc_a (Some (n 1)) }
     ensures before_commit { HasValue SlowOwnerLosesItsEntry.run_case SlowOwnerLosesItsEntry.book 19
@@ -139,6 +147,7 @@ pub fn lost_stage_is_retried()
     ensures legal { IsLegalRun LostStageIsRetried.run_case LostStageIsRetried.book }
     ensures licensed { AreLicensed LostStageIsRetried.run_case LostStageIsRetried.book }
     ensures follow { LogsFollow LostStageIsRetried.run_case LostStageIsRetried.book }
+    ensures kept { StopsKept LostStageIsRetried.run_case LostStageIsRetried.book }
     ensures before_commit { HasValue LostStageIsRetried.run_case LostStageIsRetried.book 9 doc_a
         (Some (n 1)) }
     ensures after_commit { HasValue LostStageIsRetried.run_case LostStageIsRetried.book 10 doc_a
@@ -151,6 +160,7 @@ pub fn late_commit_is_unknown()
     ensures legal { IsLegalRun LateCommitIsUnknown.run_case LateCommitIsUnknown.book }
     ensures licensed { AreLicensed LateCommitIsUnknown.run_case LateCommitIsUnknown.book }
     ensures follow { LogsFollow LateCommitIsUnknown.run_case LateCommitIsUnknown.book }
+    ensures kept { StopsKept LateCommitIsUnknown.run_case LateCommitIsUnknown.book }
     ensures before_commit { HasValue LateCommitIsUnknown.run_case LateCommitIsUnknown.book 3 doc_a
         (Some (n 1)) }
     ensures after_late_commit { HasValue LateCommitIsUnknown.run_case LateCommitIsUnknown.book 4
@@ -165,6 +175,7 @@ pub fn transaction_expires()
     ensures legal { IsLegalRun TransactionExpires.run_case TransactionExpires.book }
     ensures licensed { AreLicensed TransactionExpires.run_case TransactionExpires.book }
     ensures follow { LogsFollow TransactionExpires.run_case TransactionExpires.book }
+    ensures kept { StopsKept TransactionExpires.run_case TransactionExpires.book }
     ensures at_end { HasValue TransactionExpires.run_case TransactionExpires.book 2 doc_a
         (Some (n 1)) }
 {}
@@ -175,6 +186,7 @@ pub fn blocked_by_expired_entry()
     ensures legal { IsLegalRun BlockedByExpiredEntry.run_case BlockedByExpiredEntry.book }
     ensures licensed { AreLicensed BlockedByExpiredEntry.run_case BlockedByExpiredEntry.book }
     ensures follow { LogsFollow BlockedByExpiredEntry.run_case BlockedByExpiredEntry.book }
+    ensures kept { StopsKept BlockedByExpiredEntry.run_case BlockedByExpiredEntry.book }
     ensures at_end { HasValue BlockedByExpiredEntry.run_case BlockedByExpiredEntry.book 15 doc_a
         (Some (n 1)) }
 {}
@@ -185,6 +197,7 @@ pub fn lost_rollback_is_incomplete()
     ensures legal { IsLegalRun LostRollbackIsIncomplete.run_case LostRollbackIsIncomplete.book }
     ensures licensed { AreLicensed LostRollbackIsIncomplete.run_case LostRollbackIsIncomplete.book }
     ensures follow { LogsFollow LostRollbackIsIncomplete.run_case LostRollbackIsIncomplete.book }
+    ensures kept { StopsKept LostRollbackIsIncomplete.run_case LostRollbackIsIncomplete.book }
     ensures at_end { HasValue LostRollbackIsIncomplete.run_case LostRollbackIsIncomplete.book 4
         doc_a (Some (n 1)) }
 {}
@@ -195,6 +208,7 @@ pub fn sweep_frees_pending_stage()
     ensures legal { IsLegalRun SweepFreesPendingStage.run_case SweepFreesPendingStage.book }
     ensures licensed { AreLicensed SweepFreesPendingStage.run_case SweepFreesPendingStage.book }
     ensures follow { LogsFollow SweepFreesPendingStage.run_case SweepFreesPendingStage.book }
+    ensures kept { StopsKept SweepFreesPendingStage.run_case SweepFreesPendingStage.book }
     ensures at_end { HasValue SweepFreesPendingStage.run_case SweepFreesPendingStage.book 5 doc_a
         (Some (n 1)) }
 {}
@@ -205,6 +219,7 @@ pub fn insert_taken_back()
     ensures legal { IsLegalRun InsertTakenBack.run_case InsertTakenBack.book }
     ensures licensed { AreLicensed InsertTakenBack.run_case InsertTakenBack.book }
     ensures follow { LogsFollow InsertTakenBack.run_case InsertTakenBack.book }
+    ensures kept { StopsKept InsertTakenBack.run_case InsertTakenBack.book }
     ensures before_commit { HasValue InsertTakenBack.run_case InsertTakenBack.book 7 doc_a None }
     ensures after_commit { HasValue InsertTakenBack.run_case InsertTakenBack.book 8 doc_a
         (Some (n 9)) }
@@ -217,6 +232,7 @@ pub fn late_stage_is_rolled_back()
     ensures legal { IsLegalRun LateStageIsRolledBack.run_case LateStageIsRolledBack.book }
     ensures licensed { AreLicensed LateStageIsRolledBack.run_case LateStageIsRolledBack.book }
     ensures follow { LogsFollow LateStageIsRolledBack.run_case LateStageIsRolledBack.book }
+    ensures kept { StopsKept LateStageIsRolledBack.run_case LateStageIsRolledBack.book }
     ensures rolled_back { HasValue LateStageIsRolledBack.run_case LateStageIsRolledBack.book 7 doc_a
         (Some (n 1)) }
     ensures after_commit { HasValue LateStageIsRolledBack.run_case LateStageIsRolledBack.book 11
@@ -229,6 +245,7 @@ pub fn lost_commit_is_sent_again()
     ensures legal { IsLegalRun LostCommitIsSentAgain.run_case LostCommitIsSentAgain.book }
     ensures licensed { AreLicensed LostCommitIsSentAgain.run_case LostCommitIsSentAgain.book }
     ensures follow { LogsFollow LostCommitIsSentAgain.run_case LostCommitIsSentAgain.book }
+    ensures kept { StopsKept LostCommitIsSentAgain.run_case LostCommitIsSentAgain.book }
     ensures before_commit { HasValue LostCommitIsSentAgain.run_case LostCommitIsSentAgain.book 5
         doc_a (Some (n 1)) }
     ensures after_commit { HasValue LostCommitIsSentAgain.run_case LostCommitIsSentAgain.book 6
@@ -241,6 +258,7 @@ pub fn lost_update_is_prevented()
     ensures legal { IsLegalRun LostUpdateIsPrevented.run_case LostUpdateIsPrevented.book }
     ensures licensed { AreLicensed LostUpdateIsPrevented.run_case LostUpdateIsPrevented.book }
     ensures follow { LogsFollow LostUpdateIsPrevented.run_case LostUpdateIsPrevented.book }
+    ensures kept { StopsKept LostUpdateIsPrevented.run_case LostUpdateIsPrevented.book }
     ensures after_first { HasValue LostUpdateIsPrevented.run_case LostUpdateIsPrevented.book 5 doc_a
         (Some (n 1)) }
     ensures after_second { HasValue LostUpdateIsPrevented.run_case LostUpdateIsPrevented.book 15
@@ -256,6 +274,7 @@ pub fn owner_and_cleaner_finish_together()
         OwnerAndCleanerFinishTogether.book }
     ensures follow { LogsFollow OwnerAndCleanerFinishTogether.run_case
         OwnerAndCleanerFinishTogether.book }
+    ensures kept { StopsKept OwnerAndCleanerFinishTogether.run_case OwnerAndCleanerFinishTogether.book }
     ensures after_commit { HasValue OwnerAndCleanerFinishTogether.run_case
         OwnerAndCleanerFinishTogether.book 4 doc_a (Some (n 2)) }
     ensures at_end { HasValue OwnerAndCleanerFinishTogether.run_case
@@ -268,6 +287,7 @@ pub fn insert_then_replace()
     ensures legal { IsLegalRun InsertThenReplace.run_case InsertThenReplace.book }
     ensures licensed { AreLicensed InsertThenReplace.run_case InsertThenReplace.book }
     ensures follow { LogsFollow InsertThenReplace.run_case InsertThenReplace.book }
+    ensures kept { StopsKept InsertThenReplace.run_case InsertThenReplace.book }
     ensures before_commit { HasValue InsertThenReplace.run_case InsertThenReplace.book 4 doc_a
         None }
     ensures after_commit { HasValue InsertThenReplace.run_case InsertThenReplace.book 5 doc_a
@@ -280,6 +300,7 @@ pub fn remove_document()
     ensures legal { IsLegalRun RemoveDocument.run_case RemoveDocument.book }
     ensures licensed { AreLicensed RemoveDocument.run_case RemoveDocument.book }
     ensures follow { LogsFollow RemoveDocument.run_case RemoveDocument.book }
+    ensures kept { StopsKept RemoveDocument.run_case RemoveDocument.book }
     ensures before_commit { HasValue RemoveDocument.run_case RemoveDocument.book 3 doc_b
         (Some (n 1)) }
     ensures after_commit { HasValue RemoveDocument.run_case RemoveDocument.book 4 doc_b None }
@@ -292,6 +313,7 @@ pub fn insert_over_document()
     ensures legal { IsLegalRun InsertOverDocument.run_case InsertOverDocument.book }
     ensures licensed { AreLicensed InsertOverDocument.run_case InsertOverDocument.book }
     ensures follow { LogsFollow InsertOverDocument.run_case InsertOverDocument.book }
+    ensures kept { StopsKept InsertOverDocument.run_case InsertOverDocument.book }
     ensures at_end { HasValue InsertOverDocument.run_case InsertOverDocument.book 1 doc_a
         (Some (n 1)) }
 {}
@@ -302,6 +324,7 @@ pub fn replace_of_missing_document()
     ensures legal { IsLegalRun ReplaceOfMissingDocument.run_case ReplaceOfMissingDocument.book }
     ensures licensed { AreLicensed ReplaceOfMissingDocument.run_case ReplaceOfMissingDocument.book }
     ensures follow { LogsFollow ReplaceOfMissingDocument.run_case ReplaceOfMissingDocument.book }
+    ensures kept { StopsKept ReplaceOfMissingDocument.run_case ReplaceOfMissingDocument.book }
     ensures at_end { HasValue ReplaceOfMissingDocument.run_case ReplaceOfMissingDocument.book 1
         doc_z None }
 {}
@@ -312,6 +335,7 @@ pub fn late_publish_then_sweep()
     ensures legal { IsLegalRun LatePublishThenSweep.run_case LatePublishThenSweep.book }
     ensures licensed { AreLicensed LatePublishThenSweep.run_case LatePublishThenSweep.book }
     ensures follow { LogsFollow LatePublishThenSweep.run_case LatePublishThenSweep.book }
+    ensures kept { StopsKept LatePublishThenSweep.run_case LatePublishThenSweep.book }
     ensures after_commit { HasValue LatePublishThenSweep.run_case LatePublishThenSweep.book 4 doc_a
         (Some (n 2)) }
     ensures at_end { HasValue LatePublishThenSweep.run_case LatePublishThenSweep.book 8 doc_a
@@ -324,6 +348,7 @@ pub fn entry_not_yet_expired()
     ensures legal { IsLegalRun EntryNotYetExpired.run_case EntryNotYetExpired.book }
     ensures licensed { AreLicensed EntryNotYetExpired.run_case EntryNotYetExpired.book }
     ensures follow { LogsFollow EntryNotYetExpired.run_case EntryNotYetExpired.book }
+    ensures kept { StopsKept EntryNotYetExpired.run_case EntryNotYetExpired.book }
     ensures at_end { HasValue EntryNotYetExpired.run_case EntryNotYetExpired.book 6 doc_a
         (Some (n 1)) }
 {}
@@ -337,6 +362,7 @@ pub fn reader_confirms_committed_stage()
         ReaderConfirmsCommittedStage.book }
     ensures follow { LogsFollow ReaderConfirmsCommittedStage.run_case
         ReaderConfirmsCommittedStage.book }
+    ensures kept { StopsKept ReaderConfirmsCommittedStage.run_case ReaderConfirmsCommittedStage.book }
     ensures before_commit { HasValue ReaderConfirmsCommittedStage.run_case
         ReaderConfirmsCommittedStage.book 4 doc_a (Some (n 1)) }
     ensures at_moment { HasValue ReaderConfirmsCommittedStage.run_case
@@ -351,6 +377,7 @@ pub fn blocked_after_get()
     ensures legal { IsLegalRun BlockedAfterGet.run_case BlockedAfterGet.book }
     ensures licensed { AreLicensed BlockedAfterGet.run_case BlockedAfterGet.book }
     ensures follow { LogsFollow BlockedAfterGet.run_case BlockedAfterGet.book }
+    ensures kept { StopsKept BlockedAfterGet.run_case BlockedAfterGet.book }
     ensures at_end { HasValue BlockedAfterGet.run_case BlockedAfterGet.book 9 doc_a (Some (n 1)) }
 {}
 
@@ -360,6 +387,7 @@ pub fn own_write_is_met()
     ensures legal { IsLegalRun OwnWriteIsMet.run_case OwnWriteIsMet.book }
     ensures licensed { AreLicensed OwnWriteIsMet.run_case OwnWriteIsMet.book }
     ensures follow { LogsFollow OwnWriteIsMet.run_case OwnWriteIsMet.book }
+    ensures kept { StopsKept OwnWriteIsMet.run_case OwnWriteIsMet.book }
     ensures at_end { HasValue OwnWriteIsMet.run_case OwnWriteIsMet.book 6 doc_a None }
 {}
 
@@ -369,6 +397,7 @@ pub fn commit_is_lost_three_times()
     ensures legal { IsLegalRun CommitIsLostThreeTimes.run_case CommitIsLostThreeTimes.book }
     ensures licensed { AreLicensed CommitIsLostThreeTimes.run_case CommitIsLostThreeTimes.book }
     ensures follow { LogsFollow CommitIsLostThreeTimes.run_case CommitIsLostThreeTimes.book }
+    ensures kept { StopsKept CommitIsLostThreeTimes.run_case CommitIsLostThreeTimes.book }
     ensures at_end { HasValue CommitIsLostThreeTimes.run_case CommitIsLostThreeTimes.book 12 doc_a
         (Some (n 1)) }
 {}
@@ -379,6 +408,7 @@ pub fn lost_entry_is_rolled_back()
     ensures legal { IsLegalRun LostEntryIsRolledBack.run_case LostEntryIsRolledBack.book }
     ensures licensed { AreLicensed LostEntryIsRolledBack.run_case LostEntryIsRolledBack.book }
     ensures follow { LogsFollow LostEntryIsRolledBack.run_case LostEntryIsRolledBack.book }
+    ensures kept { StopsKept LostEntryIsRolledBack.run_case LostEntryIsRolledBack.book }
     ensures at_end { HasValue LostEntryIsRolledBack.run_case LostEntryIsRolledBack.book 3 doc_a
         (Some (n 1)) }
 {}
@@ -389,6 +419,7 @@ pub fn stop_before_staging()
     ensures legal { IsLegalRun StopBeforeStaging.run_case StopBeforeStaging.book }
     ensures licensed { AreLicensed StopBeforeStaging.run_case StopBeforeStaging.book }
     ensures follow { LogsFollow StopBeforeStaging.run_case StopBeforeStaging.book }
+    ensures kept { StopsKept StopBeforeStaging.run_case StopBeforeStaging.book }
     ensures at_end { HasValue StopBeforeStaging.run_case StopBeforeStaging.book 2 doc_a
         (Some (n 1)) }
 {}
@@ -399,6 +430,7 @@ pub fn write_expires()
     ensures legal { IsLegalRun WriteExpires.run_case WriteExpires.book }
     ensures licensed { AreLicensed WriteExpires.run_case WriteExpires.book }
     ensures follow { LogsFollow WriteExpires.run_case WriteExpires.book }
+    ensures kept { StopsKept WriteExpires.run_case WriteExpires.book }
     ensures at_end { HasValue WriteExpires.run_case WriteExpires.book 4 doc_a (Some (n 1)) }
 {}
 
@@ -408,6 +440,7 @@ pub fn cleaners_cut_off()
     ensures legal { IsLegalRun CleanersCutOff.run_case CleanersCutOff.book }
     ensures licensed { AreLicensed CleanersCutOff.run_case CleanersCutOff.book }
     ensures follow { LogsFollow CleanersCutOff.run_case CleanersCutOff.book }
+    ensures kept { StopsKept CleanersCutOff.run_case CleanersCutOff.book }
     ensures at_end { HasValue CleanersCutOff.run_case CleanersCutOff.book 6 doc_a None }
 {}
 
@@ -417,6 +450,7 @@ pub fn need_false()
     ensures legal { IsLegalRun NeedFalse.run_case NeedFalse.book }
     ensures licensed { AreLicensed NeedFalse.run_case NeedFalse.book }
     ensures follow { LogsFollow NeedFalse.run_case NeedFalse.book }
+    ensures kept { StopsKept NeedFalse.run_case NeedFalse.book }
     ensures at_end { HasValue NeedFalse.run_case NeedFalse.book 0 doc_a None }
 {}
 
@@ -426,6 +460,7 @@ pub fn need_holds()
     ensures legal { IsLegalRun NeedHolds.run_case NeedHolds.book }
     ensures licensed { AreLicensed NeedHolds.run_case NeedHolds.book }
     ensures follow { LogsFollow NeedHolds.run_case NeedHolds.book }
+    ensures kept { StopsKept NeedHolds.run_case NeedHolds.book }
     ensures after_commit { HasValue NeedHolds.run_case NeedHolds.book 4 doc_a (Some (n 2)) }
 {}
 
@@ -435,5 +470,6 @@ pub fn bad_value()
     ensures legal { IsLegalRun BadValue.run_case BadValue.book }
     ensures licensed { AreLicensed BadValue.run_case BadValue.book }
     ensures follow { LogsFollow BadValue.run_case BadValue.book }
+    ensures kept { StopsKept BadValue.run_case BadValue.book }
     ensures at_end { HasValue BadValue.run_case BadValue.book 1 doc_b None }
 {}
