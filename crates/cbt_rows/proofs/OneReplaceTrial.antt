@@ -44,7 +44,7 @@ use Rattle.cbt_rows.specs.Words.{HasValue, doc_a, n, stage_of, lists_of}
 use Rattle.cbt_rows.specs.Written.{n_of}
 use Rattle.cbt_rows.specs.OneReplace.{opening, past_0, past_1, past_2, past_3, past_4, history, marks, plans, run_case, book, e1, e2, e3, e4, e5, m0, m1, m2, m3, m4, m5, made_1, plan_1_1, client_1, attempt_1_1_1, op_1_1_1_1}
 
-own-1 : own_of book 1 ≡ made_1
+pub own-1 : own_of book 1 ≡ made_1
 unfolding row clock_of
 own-1 = refl
 

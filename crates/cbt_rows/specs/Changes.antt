@@ -16,19 +16,24 @@ use Rattle.cbt_book.specs.Cleaners.{CleanerPlan}
 use Rattle.cbt_book.specs.Numbers.{Identity}
 use Rattle.cbt_book.specs.ReadAt.{Reading}
 use Rattle.cbt_book.specs.Shares.{share_of, has_record}
+use Rattle.cbt_book.specs.declared.book.Book.{Book}
 use Rattle.cbt_book.specs.declared.cleaners.PassEnd.TheVariants as pass_end
+use Rattle.cbt_book.specs.declared.cleaners.PassLog.{PassLog}
 use Rattle.cbt_book.specs.declared.cleaners.RoundLog.{RoundLog}
 use Rattle.cbt_book.specs.declared.clients.ClientLog.{ClientLog}
+use Rattle.cbt_book.specs.declared.clients.TxnEnd.TheVariants as txn_end
 use Rattle.cbt_book.specs.declared.operations.OpAnswer.TheVariants as answer
 use Rattle.cbt_book.specs.declared.operations.OpLog.{OpLog}
 use Rattle.cbt_book.specs.declared.operations.When.TheVariants as when
 use Rattle.cbt_core.specs.Attempts.{Course, course_of}
 use Rattle.cbt_core.specs.Transactions.{TxnTerms}
-use Rattle.cbt_core.specs.Walk.{AttemptTerms, nothing_yet}
+use Rattle.cbt_core.specs.Walk.{AttemptTerms, Sofar, nothing_yet, noted}
+use Rattle.cbt_core.specs.declared.case.Case.{Case}
 use Rattle.cbt_rows.specs.BlockedByExpiredEntry as blocked
 use Rattle.cbt_rows.specs.CleanerFreesPendingStage as freed
 use Rattle.cbt_rows.specs.LateCommitIsUnknown as late
 use Rattle.cbt_rows.specs.LostStageIsRetried as lost
+use Rattle.cbt_rows.specs.LostUpdateIsPrevented as updated
 use Rattle.cbt_rows.specs.OneReplace as one
 use Rattle.cbt_rows.specs.ReaderBeforeCommit as reader
 use Rattle.cbt_rows.specs.SlowOwnerLosesItsEntry as slow
@@ -198,3 +203,43 @@ whole_course = course_of first_try one.attempt_1_1_1 [] []
 -- the second staging of a client that wrote a document twice
 abbrev pub staged_again : Stage
 staged_again = stage_of first_attempt 0 Replace (Some (n 3))
+
+-- a client that made no call, and tells that it was stopped
+abbrev pub idle : ClientLog
+idle = record { txns = record { attempts = []; end = txn_end.Stopped } ∷ []; calls = 0 }
+
+abbrev pub idle_book : Book
+idle_book = record { kept = record { opening = one.opening; history = []; marks = [] }; clients = idle ∷ []; cleaners = [] }
+
+-- one replacement, with a stop after so many calls
+abbrev pub stopped_after : ℕ → Case
+stopped_after calls = record one.run_case { stops = (1, calls) ∷ [] }
+
+-- a client that is stopped before its first call, though its transaction makes none
+abbrev pub nothing_to_call : Case
+nothing_to_call = record one.run_case { stops = (1, 0) ∷ []; plans = record { txns = record one.plan_1_1 { ops = [] } ∷ [] } ∷ [] }
+
+-- a pass of a cleaner that writes its row once more before the pass has ended
+abbrev pub beat_behind : Made
+beat_behind = told freed.e4 7 21007 (reply.Done 21006974976)
+
+abbrev pub pass_with_beat : PassLog
+pass_with_beat = record { atr = 0; span = span_of 5 8; end = pass_end.Ok (first_attempt ∷ []) }
+
+-- the drop of an entry that has not expired
+abbrev pub dropped_early : Made
+dropped_early = told freed.e6 6 16002 (reply.Done 16001990656)
+
+-- a cleaner that begins its next pass before the first has ended
+abbrev pub two_begun : List Made
+two_begun = record { step = step.ReadAtr 1; answer = record { place = 6; now = 21006; reply = reply.Entries [] } } ∷ freed.m5 ∷ []
+
+-- a write whose document was read before, and that reads it again
+abbrev pub served_try : AttemptTerms
+served_try = record { id = first_attempt; plan = updated.plan_1_1; atrs = 16; latest = 16000 }
+
+abbrev pub after_get : Sofar
+after_get = noted get_first updated.op_1_1_1_1 nothing_yet
+
+abbrev pub read_though_served : List Made
+read_though_served = updated.m3 ∷ updated.m2 ∷ updated.m0 ∷ []

@@ -12,8 +12,8 @@ mod unplanned;
 pub use called::laws_where_cleaner_frees_pending_stage;
 pub use misread::{
     answers_that_are_right, document_that_changes_hands, hands_that_change,
-    passes_that_do_not_follow, readings_without_second_read, rounds_that_do_not_follow, shares,
-    spans_that_do_not_follow,
+    passes_that_are_not_logged, passes_that_do_not_follow, readings_without_second_read,
+    rounds_that_do_not_follow, shares, spans_that_do_not_follow,
 };
 pub use rows::{
     bad_value, blocked_after_get, blocked_by_expired_entry, cleaner_frees_pending_stage,
@@ -39,5 +39,5 @@ pub use unlicensed::{
 pub use unplanned::{
     attempts_that_do_otherwise, bases_of_another_reading, calls_that_do_not_fit,
     clients_that_do_otherwise, commits_that_do_not_hold, needs_that_do_otherwise,
-    stagings_that_carry_another_write, transactions_that_end_otherwise,
+    stagings_that_carry_another_write, stops_that_are_not_kept, transactions_that_end_otherwise,
 };

@@ -1,6 +1,6 @@
 ghost use Rattle.std.specs.Prelude.{◌≡◌, [], ◌∷◌, Some};
-ghost use Rattle.cbt_book.specs.Cleaners.{RoundFollows, Whole};
-ghost use Rattle.cbt_book.specs.Passes.{PassKept, Finishes};
+ghost use Rattle.cbt_book.specs.Cleaners.{RoundFollows, StandBehind, Whole, Cut};
+ghost use Rattle.cbt_book.specs.Passes.{PassCalls, PassFollows, PassKept, Finishes};
 ghost use Rattle.cbt_book.specs.ReadAt.{IsReadAt};
 ghost use Rattle.cbt_book.specs.Spans.{IsSpan};
 ghost use Rattle.cbt_book.specs.Outcomes.{ChangesHands};
@@ -10,8 +10,10 @@ ghost use Rattle.cbt_core.specs.Operations.{OpFollows};
 ghost use Rattle.cbt_core.specs.Right.{IsRightWhen};
 ghost use Rattle.cbt_rows.specs.Contended;
 ghost use Rattle.cbt_core.specs.Walk.{nothing_yet};
-ghost use Rattle.cbt_rows.specs.Changes.{first_attempt, first_try, get_first, committed_unconfirmed, committed_reading, missing_unconfirmed, missing_reading, three_rows, records_of, round_alone, cleaner_alone, staged_again};
+ghost use Rattle.cbt_rows.specs.Changes.{first_attempt, first_try, get_first, committed_unconfirmed, committed_reading, missing_unconfirmed, missing_reading, three_rows, records_of, round_alone, cleaner_alone, staged_again, beat_behind, pass_with_beat, dropped_early, two_begun};
 ghost use Rattle.cbt_rows.specs.CleanerFreesPendingStage as freed;
+ghost use Rattle.cbt_rows.specs.CleanersCutOff as cut_off;
+ghost use Rattle.cbt_rows.specs.EntryNotYetExpired as unexpired;
 ghost use Rattle.cbt_rows.specs.OneReplace as one;
 ghost use Rattle.cbt_rows.specs.ReaderBeforeCommit as reader;
 ghost use Rattle.cbt_rows.specs.ReaderMeetsCommitOfRewrittenStage as rewritten;
@@ -31,15 +33,28 @@ pub fn spans_that_do_not_follow()
     ensures leaves_out { ¬ IsSpan one.made_1 0 (span_of 1 3) }
 {}
 
-/// A pass does not keep less than it was shown, and does not finish an entry that it skips.
+/// A pass does not keep less than it was shown, and does not finish an entry that it skips. It holds no
+/// call of another kind, and none for an entry that has not expired.
 pub fn passes_that_do_not_follow()
     ensures covers_nothing { ¬ PassKept 0 freed.m5 (freed.m6 ∷ freed.m5 ∷ []) [] }
     ensures skips { ¬ Finishes 0 first_attempt (freed.m5 ∷ []) }
+    ensures beats { ¬ PassCalls 0 freed.m5 (beat_behind ∷ freed.m6 ∷ []) }
+    ensures beats_within { ¬ PassFollows (beat_behind ∷ freed.made_3) 5 pass_with_beat }
+    ensures not_due { ¬ PassCalls 0 unexpired.m5 (dropped_early ∷ []) }
 {}
 
 /// A cleaner does not take a share of the records without the client record.
 pub fn rounds_that_do_not_follow()
     ensures { ¬ RoundFollows cleaner_alone (freed.m6 ∷ freed.m5 ∷ []) Whole 0 round_alone }
+{}
+
+/// A round that was cut off leaves the calls of one pass unlogged, which has not ended: not those of two,
+/// nor of one that has. A whole round leaves none.
+pub fn passes_that_are_not_logged()
+    ensures begun { StandBehind Cut (0 ∷ []) (freed.m5 ∷ []) }
+    ensures two { ¬ StandBehind Cut (0 ∷ 1 ∷ []) two_begun }
+    ensures ended { ¬ StandBehind Cut (0 ∷ []) (cut_off.m2 ∷ []) }
+    ensures whole { ¬ StandBehind Whole (0 ∷ []) (freed.m5 ∷ []) }
 {}
 
 /// Three cleaners share five records; where one has not beaten for too long, the two others do.

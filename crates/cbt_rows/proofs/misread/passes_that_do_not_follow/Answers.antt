@@ -1,25 +1,37 @@
-use Rattle.std.proofs.Common.{◌≡◌, ℕ, inl, inr, List, [], ◌∷◌, refl, sym, ap, ◌∙◌}
-use Rattle.cbt_model.specs.declared.entries.Entry.{Entry}
-use Rattle.cbt_model.specs.declared.steps.Reply.TheVariants as reply
-use Rattle.cbt_book.specs.Passes.{Finishes, dropped, missing, pending, expired_in}
+use Rattle.std.proofs.Common.{◌≡◌, ℕ, ◌≤◌, List, [], ◌∷◌, ◌++◌, sym, subst, arith}
+use Rattle.cbt_base.specs.Ids.{cleaner_number}
+use Rattle.cbt_model.specs.declared.events.Made.{Made}
+use Rattle.cbt_model.specs.declared.steps.Step.TheVariants as step
+use Rattle.cbt_book.specs.Passes.{MayPass, PassCalls}
 use Rattle.cbt_rows.specs.CleanerFreesPendingStage as freed
-use Rattle.cbt_rows.specs.Changes.{first_attempt}
-use Rattle.cbt_rows.proofs.Never.{filled, no_drop_sent, no_entry_missed, no_entry_read}
+use Rattle.cbt_rows.specs.Changes.{beat_behind}
+use Rattle.cbt_rows.proofs.Never.{filled}
+use Rattle.cbt_rows.proofs.Passes.{keeps_it, not_finished}
 use Rattle.cbt_rows.proofs.misread.passes_that_do_not_follow.Goals as goal
 
-entries-same : {xs ys : List (ℕ × Entry)} → reply.Entries xs ≡ reply.Entries ys → xs ≡ ys
-entries-same e = cc
+above : 1 ≤ 0 → ⊥
+above h = omega arith
 
-skipped : ¬ Finishes 0 first_attempt (freed.m5 ∷ [])
-skipped (dropped (inl (guarded, h, done))) = no_drop_sent freed.m5 0 first_attempt guarded refl h
-skipped (dropped (inr h)) = h
-skipped (missing (inl h)) = no_entry_missed freed.m5 0 first_attempt refl h
-skipped (missing (inr h)) = h
-skipped (pending (inl ((e, h, is), rest))) = no_entry_read freed.m5 0 first_attempt e refl h
-skipped (pending (inr h)) = h
+-- the newest of a pass's calls is none but a call of a pass
+newest-passes : (r : ℕ) (m : Made) (older : List Made) (first : Made) (later : List Made) → (m.step ≡ step.ReadAtr r → ⊥) → m ∷ older ≡ later ++ first ∷ []
+    → PassCalls r first later → MayPass r m.step
+newest-passes r m older first [] other calls may = absurd (other (subst (λ (x : Made). x.step ≡ step.ReadAtr r) (sym (same calls)) may.reads))
+  where
+    same : m ∷ older ≡ first ∷ [] → m ≡ first
+    same e = cc
+newest-passes r m older first (x ∷ later) other calls may = subst (λ (y : Made). MayPass r y.step) (sym (same calls)) may.only.0
+  where
+    same : m ∷ older ≡ x ∷ later ++ first ∷ [] → m ≡ x
+    same e = cc
+
+beat-reads : step.Beat (cleaner_number 1) 60000 1 [] ≡ step.ReadAtr 0 → ⊥
+beat-reads e = cc
 
 pub returns : goal.returns
 returns c = record {
-  covers_nothing = λ kept. filled (sym (kept.covered_is ∙ ap (λ es. expired_in es freed.m5.answer.now) (sym (entries-same kept.shown))));
-  skips = skipped;
+  covers_nothing = λ kept. filled (sym (keeps_it _ [] kept));
+  skips = not_finished;
+  beats = λ may. may.only.0;
+  beats_within = λ it. newest-passes 0 beat_behind (freed.m6 ∷ freed.m5 ∷ []) it.first it.later beat-reads it.calls it.may;
+  not_due = λ may. above may.few;
 }
