@@ -204,6 +204,24 @@ op_1_1_1_1-follows = follows_as (replaces-n2 _) (record {
   in_time = (lit≤ tt ▸ lit≤ tt ▸ lit≤ tt ▸ tt);
 })
 
+pub its-commit : closing.CommitHolds (attempt_number 1 1 1) 3 (m5 ∷ m4 ∷ m3 ∷ [])
+its-commit = closing.told ((not_of commits (attempt_number 1 1 1) m5 refl ▹ not_of commits (attempt_number 1 1 1) m4 refl ▹ inl (
+  refl,
+  (
+    12,
+    1002962944,
+    (lists_of [] (doc_a ∷ []) []),
+    refl,
+    refl,
+  ),
+)))
+
+pub its-finish : closing.IsFinished (attempt_number 1 1 1) (m5 ∷ m4 ∷ m3 ∷ []) true
+its-finish = (
+  inl ((12, refl), inl refl),
+  ((λ e. unfailed m5 refl) ▸ (λ e. unfailed m4 refl) ▸ (λ e. unfailed m3 refl) ▸ tt),
+)
+
 attempt_1_1_1-follows : attempts.AttemptFollows (transactions.attempt_terms txn_1_1-terms 1000 1) made_1 0 attempt_1_1_1
 attempt_1_1_1-follows = record {
   id = refl;
@@ -233,20 +251,8 @@ attempt_1_1_1-follows = record {
       good = refl;
       keep = refl;
     },
-    closing.told ((not_of commits (attempt_number 1 1 1) m5 refl ▹ not_of commits (attempt_number 1 1 1) m4 refl ▹ inl (
-      refl,
-      (
-        12,
-        1002962944,
-        (lists_of [] (doc_a ∷ []) []),
-        refl,
-        refl,
-      ),
-    ))),
-    (
-      inl ((12, refl), inl refl),
-      ((λ e. unfailed m5 refl) ▸ (λ e. unfailed m4 refl) ▸ (λ e. unfailed m3 refl) ▸ tt),
-    ),
+    its-commit,
+    its-finish,
   );
 }
 

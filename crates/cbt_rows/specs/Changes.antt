@@ -20,6 +20,8 @@ use Rattle.cbt_book.specs.declared.book.Book.{Book}
 use Rattle.cbt_book.specs.declared.cleaners.PassEnd.TheVariants as pass_end
 use Rattle.cbt_book.specs.declared.cleaners.PassLog.{PassLog}
 use Rattle.cbt_book.specs.declared.cleaners.RoundLog.{RoundLog}
+use Rattle.cbt_book.specs.declared.clients.AttemptEnd.TheVariants as attempt_end
+use Rattle.cbt_book.specs.declared.clients.AttemptLog.{AttemptLog}
 use Rattle.cbt_book.specs.declared.clients.ClientLog.{ClientLog}
 use Rattle.cbt_book.specs.declared.clients.TxnEnd.TheVariants as txn_end
 use Rattle.cbt_book.specs.declared.operations.OpAnswer.TheVariants as answer
@@ -218,6 +220,16 @@ stopped_after calls = record one.run_case { stops = (1, calls) ∷ [] }
 -- a client that is stopped before its first call, though its transaction makes none
 abbrev pub nothing_to_call : Case
 nothing_to_call = record one.run_case { stops = (1, 0) ∷ []; plans = record { txns = record one.plan_1_1 { ops = [] } ∷ [] } ∷ [] }
+
+-- a client that has ended its transaction, and tells that it was stopped
+abbrev pub ended_attempt : AttemptLog
+ended_attempt = record one.attempt_1_1_1 { end = attempt_end.Stopped }
+
+abbrev pub ended_client : ClientLog
+ended_client = record { txns = record { attempts = ended_attempt ∷ []; end = txn_end.Stopped } ∷ []; calls = 6 }
+
+abbrev pub ended_book : Book
+ended_book = record one.book { clients = ended_client ∷ [] }
 
 -- a pass of a cleaner that writes its row once more before the pass has ended
 abbrev pub beat_behind : Made

@@ -11,7 +11,7 @@ ghost use Rattle.cbt_core.specs.Transactions.{EndsTxn, IsRetried};
 ghost use Rattle.cbt_core.specs.Walk.{Writes, nothing_yet, noted};
 ghost use Rattle.cbt_model.specs.declared.documents.OpKind.TheVariants.{Insert, Replace};
 ghost use Rattle.cbt_model.specs.declared.steps.Step.TheVariants as step;
-ghost use Rattle.cbt_rows.specs.Changes.{first_attempt, base_elsewhere, first_try, fresh_list, get_first, replace_then, got_first, staged_then, need_two, told_to_hold, told_with_call, one_entry, read_twice, txn_terms, refused_course, miscounted, own_staging, other_staging, unended_course, late_try, cut_course, whole_course, idle, idle_book, stopped_after, nothing_to_call, served_try, after_get, read_though_served};
+ghost use Rattle.cbt_rows.specs.Changes.{first_attempt, base_elsewhere, first_try, fresh_list, get_first, replace_then, got_first, staged_then, need_two, told_to_hold, told_with_call, one_entry, read_twice, txn_terms, refused_course, miscounted, own_staging, other_staging, unended_course, late_try, cut_course, whole_course, idle, idle_book, stopped_after, nothing_to_call, ended_book, served_try, after_get, read_though_served};
 ghost use Rattle.cbt_rows.specs.LateCommitIsUnknown as late;
 ghost use Rattle.cbt_rows.specs.OneReplace as one;
 ghost use Rattle.cbt_rows.specs.SlowOwnerLosesItsEntry as slow;
@@ -92,13 +92,14 @@ pub fn clients_that_do_otherwise()
 {}
 
 /// A client does not tell of a stop that the script does not name, though such a log follows each plan,
-/// nor of one at another number of its calls, nor of one that came before no call. No client makes more
-/// calls than its stop names.
+/// nor of one at another number of its calls, nor of one that came before no call or after the last. No
+/// client makes more calls than its stop names.
 pub fn stops_that_are_not_kept()
     ensures idle_follows { (client atrs : ℕ) (plan : TxnPlan) (plans : List TxnPlan)
         → FollowsPlan client atrs (record { txns = plan ∷ plans }) [] idle }
     ensures unnamed { ¬ StopsKept one.run_case idle_book }
     ensures elsewhere { ¬ StopsKept (stopped_after 4) stopped.book }
     ensures no_call { ¬ StopsKept nothing_to_call idle_book }
+    ensures ended { ¬ StopsKept (stopped_after 6) ended_book }
     ensures too_many { ¬ StopsKept (stopped_after 3) one.book }
 {}
