@@ -21,4 +21,10 @@ served (unread none) = differ 1 0 refl none
 served (unserved own none) = no_bool none
 
 pub returns : goal.returns
-returns c = record { blocked = λ it. too_few it.asks.asked it.older it.asks.calls_are it.asks.four; padded = λ it. above it.readings; another_record = λ it. differ 3 12 refl it.1; served = λ it. served it.1; no_value = λ it. filled it }
+returns c = record {
+  blocked = λ it. too_few it.asks.asked it.older it.asks.calls_are it.asks.four;
+  padded = λ it. above it.readings;
+  another_record = λ it. differ 3 12 refl it.1;
+  served = λ it. served it.1;
+  no_value = λ it. filled it;
+}
