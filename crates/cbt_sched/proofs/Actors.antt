@@ -6,12 +6,12 @@ use Rattle.std.proofs.lemmas.List.{append-nil, length-set}
 use Rattle.std.proofs.lemmas.List.Sums.{sum_by-set}
 use Rattle.std.proofs.lemmas.Option.{slice_get_within, get_or_from_slice_get}
 use Rattle.cbt_model.specs.History.{own}
+use Rattle.cbt_model.specs.Stops.{stop_of}
 use Rattle.cbt_model.specs.declared.events.Event.{Event}
 use Rattle.cbt_model.specs.declared.events.Made.{Made}
 use Rattle.cbt_model.specs.declared.states.State.{State}
 use Rattle.cbt_model.specs.declared.steps.Step.{Step}
 use Rattle.cbt_sched.specs.Driving.{AllStand, Called, Idle, Stands, Visits, asks}
-use Rattle.cbt_sched.specs.Stopping.{first_stop}
 use Rattle.cbt_sched.proofs.Counting.{same_or_apart}
 use Rattle.cbt_sched.proofs.Visiting.{visits-one, visits-none}
 
@@ -134,8 +134,8 @@ visit-of_turn false number old new before after turn = visits-none number old ne
 pub all_stand-set : {A : Type 0} (stands_for : A → List Made → Type 0) (step_now : A → Option Step) (is_stopped : A → Bool) (same_origin : A → A → Type 0)
     (first : ℕ) (stops : List (ℕ × ℕ)) (refused refused' : Bool) (begun now : List A) (s s' : State) (h h' : List Event) (k : ℕ) (a a' : A)
     → slice_get now k ≡ Some a
-    → ((b : A) → Stands stands_for step_now is_stopped same_origin (first_stop stops (first + k)) refused b a (own s h (first + k) (length h))
-    → Stands stands_for step_now is_stopped same_origin (first_stop stops (first + k)) refused' b a' (own s' h' (first + k) (length h')))
+    → ((b : A) → Stands stands_for step_now is_stopped same_origin (stop_of stops (first + k)) refused b a (own s h (first + k) (length h))
+    → Stands stands_for step_now is_stopped same_origin (stop_of stops (first + k)) refused' b a' (own s' h' (first + k) (length h')))
     → ((other : ℕ) → other ≢ first + k → own s' h' other (length h') ≡ own s h other (length h))
     → (refused' ≡ false → refused ≡ false)
     → AllStand stands_for step_now is_stopped same_origin first stops refused begun now s h
@@ -146,19 +146,19 @@ all_stand-set {A} stands_for step_now is_stopped same_origin first stops refused
 }
   where
     here : (j : ℕ) (b x : A) → slice_get begun j ≡ Some b → slice_get (slice_set now k a') j ≡ Some x → j ≡ k
-        → Stands stands_for step_now is_stopped same_origin (first_stop stops (first + j)) refused' b x (own s' h' (first + j) (length h'))
+        → Stands stands_for step_now is_stopped same_origin (stop_of stops (first + j)) refused' b x (own s' h' (first + j) (length h'))
     here j b x at is same =
         let set : Some x ≡ Some a' = sym is ∙ ap (λ i. slice_get (slice_set now k a') i) same ∙ get-set_there now k a' (slice_get_within now k a there) in
         let new : x ≡ a' = cc in
-        subst (λ i. Stands stands_for step_now is_stopped same_origin (first_stop stops (first + i)) refused' b x (own s' h' (first + i) (length h'))) (sym same)
-        (subst (λ y. Stands stands_for step_now is_stopped same_origin (first_stop stops (first + k)) refused' b y (own s' h' (first + k) (length h'))) (sym new)
+        subst (λ i. Stands stands_for step_now is_stopped same_origin (stop_of stops (first + i)) refused' b x (own s' h' (first + i) (length h'))) (sym same)
+        (subst (λ y. Stands stands_for step_now is_stopped same_origin (stop_of stops (first + k)) refused' b y (own s' h' (first + k) (length h'))) (sym new)
         (turn b (all.each k b a (ap (λ i. slice_get begun i) (sym same) ∙ at) there)))
 
     elsewhere : (j : ℕ) (b x : A) → slice_get begun j ≡ Some b → slice_get (slice_set now k a') j ≡ Some x → j ≢ k
-        → Stands stands_for step_now is_stopped same_origin (first_stop stops (first + j)) refused' b x (own s' h' (first + j) (length h'))
+        → Stands stands_for step_now is_stopped same_origin (stop_of stops (first + j)) refused' b x (own s' h' (first + j) (length h'))
     elsewhere j b x at is apart =
         let before = all.each j b x at (sym (get-set_elsewhere now k j a' apart) ∙ is) in
-        subst (λ l. Stands stands_for step_now is_stopped same_origin (first_stop stops (first + j)) refused' b x l) (sym (others (first + j) (λ same. apart (plus-same same))))
+        subst (λ l. Stands stands_for step_now is_stopped same_origin (stop_of stops (first + j)) refused' b x l) (sym (others (first + j) (λ same. apart (plus-same same))))
         (record { stands = before.stands; origin = before.origin; within = before.within; cause = λ fine. before.cause (sticky fine) })
       where
         plus-same : first + j ≡ first + k → j ≡ k
@@ -175,7 +175,7 @@ all_stand-refused {A} stands_for step_now is_stopped same_origin first stops ref
     (record { same_length = all.same_length; each = λ k b a at is. each k b a at is }))
   where
     each : (k : ℕ) (b a : A) → slice_get begun k ≡ Some b → slice_get now k ≡ Some a
-        → Stands stands_for step_now is_stopped same_origin (first_stop stops (first + k)) true b a (own s h (first + k) (length h))
+        → Stands stands_for step_now is_stopped same_origin (stop_of stops (first + k)) true b a (own s h (first + k) (length h))
     each k b a at is =
         let before = all.each k b a at is in
         record { stands = before.stands; origin = before.origin; within = before.within; cause = λ fine. absurd (cc) }
@@ -183,7 +183,7 @@ all_stand-refused {A} stands_for step_now is_stopped same_origin first stops ref
 -- the same by the actor's number and its stop
 pub all_stand-at : {A : Type 0} (stands_for : A → List Made → Type 0) (step_now : A → Option Step) (is_stopped : A → Bool) (same_origin : A → A → Type 0)
     (first : ℕ) (stops : List (ℕ × ℕ)) (refused refused' : Bool) (begun now : List A) (s s' : State) (h h' : List Event) (k : ℕ) (a a' : A) (number : ℕ) (stop : Option ℕ)
-    → first + k ≡ number → stop ≡ first_stop stops number → slice_get now k ≡ Some a
+    → first + k ≡ number → stop ≡ stop_of stops number → slice_get now k ≡ Some a
     → ((b : A) → Stands stands_for step_now is_stopped same_origin stop refused b a (own s h number (length h))
     → Stands stands_for step_now is_stopped same_origin stop refused' b a' (own s' h' number (length h')))
     → ((other : ℕ) → other ≢ number → own s' h' other (length h') ≡ own s h other (length h))
@@ -192,8 +192,8 @@ pub all_stand-at : {A : Type 0} (stands_for : A → List Made → Type 0) (step_
     → AllStand stands_for step_now is_stopped same_origin first stops refused' begun (slice_set now k a') s' h'
 all_stand-at {A} stands_for step_now is_stopped same_origin first stops refused refused' begun now s s' h h' k a a' number stop same is there turn others sticky all =
     all_stand-set stands_for step_now is_stopped same_origin first stops refused refused' begun now s s' h h' k a a' there
-    (subst (λ m. (b : A) → Stands stands_for step_now is_stopped same_origin (first_stop stops m) refused b a (own s h m (length h))
-    → Stands stands_for step_now is_stopped same_origin (first_stop stops m) refused' b a' (own s' h' m (length h'))) (sym same)
+    (subst (λ m. (b : A) → Stands stands_for step_now is_stopped same_origin (stop_of stops m) refused b a (own s h m (length h))
+    → Stands stands_for step_now is_stopped same_origin (stop_of stops m) refused' b a' (own s' h' m (length h'))) (sym same)
     (subst (λ o. (b : A) → Stands stands_for step_now is_stopped same_origin o refused b a (own s h number (length h))
     → Stands stands_for step_now is_stopped same_origin o refused' b a' (own s' h' number (length h'))) is turn))
     (λ other apart. others other (λ e. apart (e ∙ sym same))) sticky all

@@ -6,13 +6,13 @@ use Rattle.std.proofs.lemmas.List.Sums.{sum_by-cons}
 use Rattle.std.proofs.lemmas.Option.{slice_get_within}
 use Rattle.cbt_model.specs.History.{own}
 use Rattle.cbt_model.specs.Legal.{calls_below, one_of}
+use Rattle.cbt_model.specs.Stops.{stop_of}
 use Rattle.cbt_model.specs.declared.events.Event.{Event}
 use Rattle.cbt_model.specs.declared.events.Made.{Made}
 use Rattle.cbt_model.specs.declared.states.State.{State}
 use Rattle.cbt_model.specs.declared.steps.Step.{Step}
 use Rattle.cbt_model.proofs.Longer.{calls_below-next, length-next, own-length}
 use Rattle.cbt_sched.specs.Driving.{AllStand, Stands}
-use Rattle.cbt_sched.specs.Stopping.{first_stop}
 use Rattle.cbt_sched.specs.Turns.{callers, calls_of}
 use Rattle.cbt_sched.proofs.Counting.{eq-same}
 
@@ -37,7 +37,7 @@ all_stand-begun {A} stands_for step_now is_stopped same_origin first stops refus
 }
   where
     each : (k : ℕ) (b a : A) → slice_get actors k ≡ Some b → slice_get actors k ≡ Some a
-        → Stands stands_for step_now is_stopped same_origin (first_stop stops (first + k)) refused b a (own s h (first + k) (length h))
+        → Stands stands_for step_now is_stopped same_origin (stop_of stops (first + k)) refused b a (own s h (first + k) (length h))
     each k b a at is =
         let both : Some b ≡ Some a = sym at ∙ is in
         let same : b ≡ a = cc in

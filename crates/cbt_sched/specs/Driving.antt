@@ -4,13 +4,14 @@ use Rattle.std.specs.List.{range_with_len}
 use Rattle.std.specs.Option.{option_and_then}
 use Rattle.cbt_model.specs.History.{own}
 use Rattle.cbt_model.specs.Legal.{Terms}
+use Rattle.cbt_model.specs.Stops.{stop_of}
 use Rattle.cbt_model.specs.declared.events.Event.{Event}
 use Rattle.cbt_model.specs.declared.events.Item.{Item}
 use Rattle.cbt_model.specs.declared.events.Made.{Made}
 use Rattle.cbt_model.specs.declared.events.Mark.{Mark}
 use Rattle.cbt_model.specs.declared.states.State.{State}
 use Rattle.cbt_model.specs.declared.steps.Step.{Step}
-use Rattle.cbt_sched.specs.Stopping.{first_stop, StopReached}
+use Rattle.cbt_sched.specs.Stopping.{StopReached}
 use Rattle.cbt_sched.specs.Turns.{calls_of, left_after, after_items, marks_of, rounds, AddsMarks}
 
 -- a node goes on: its opening and terms stay, and its history grows at its end
@@ -35,7 +36,7 @@ pub record AllStand {A : Type 0} (stands_for : A → List Made → Type 0) (step
     (first : ℕ) (stops : List (ℕ × ℕ)) (refused : Bool) (begun now : List A) (s0 : State) (h : List Event) : Type 0 where
   pub same_length : length now ≡ length begun
   pub each : (k : ℕ) (b a : A) → slice_get begun k ≡ Some b → slice_get now k ≡ Some a
-      → Stands stands_for step_now is_stopped same_origin (first_stop stops (first + k)) refused b a (own s0 h (first + k) (length h))
+      → Stands stands_for step_now is_stopped same_origin (stop_of stops (first + k)) refused b a (own s0 h (first + k) (length h))
 
 -- whether the actor with this number has a next step
 abbrev pub asks : {A : Type 0} → (A → Option Step) → ℕ → List A → ℕ → Bool

@@ -5,7 +5,7 @@ ghost use Rattle.cbt_model.specs.History.{own};
 ghost use Rattle.cbt_sched.specs.Driving.{AllStand, Agrees, Follows, GoesOn, asks};
 ghost use Rattle.cbt_sched.specs.Turns.{callers};
 
-use crate::stops::first_stop;
+use crate::stops::stop_of;
 use crate::visits::make_calls;
 use cbt_base::List;
 use cbt_model::{Actor, Item, Node};
@@ -57,7 +57,7 @@ fn follow_item<N: Node, A: Actor>(
         }
     };
     if let Some(place) = place_of(first, actors.len(), number) {
-        let stop = first_stop(stops, number);
+        let stop = stop_of(stops, number);
         let actor = actors.at_mut(place);
         make_calls(alloc, node, number, stop, limit, actor, refused);
     }

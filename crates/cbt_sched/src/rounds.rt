@@ -8,7 +8,7 @@ ghost use Rattle.cbt_sched.specs.Positions.{LeadsOn};
 ghost use Rattle.cbt_sched.specs.Turns.{callers, calls_of, left_after, rounds};
 
 use crate::going::Going;
-use crate::stops::first_stop;
+use crate::stops::stop_of;
 use crate::visits::make_call;
 use cbt_base::List;
 use cbt_model::{Actor, Node};
@@ -50,7 +50,7 @@ fn one_round<N: Node, A: Actor>(
     while at <= actors.len() {
         let place = at - 1;
         let number = first + place as u32;
-        let stop = first_stop(stops, number);
+        let stop = stop_of(stops, number);
         if make_call(alloc, node, number, stop, actors.at_mut(place), refused) {
             called = true;
             last = at;

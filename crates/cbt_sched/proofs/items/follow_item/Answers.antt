@@ -13,8 +13,8 @@ returns-in-Some-clause-stand g c begun =
     let e = c.make_calls.ensures in
     all_stand-at g.A.Actor.stands_for g.A.Actor.step_now g.A.Actor.is_stopped g.A.Actor.same_origin c.args.first c.args.stops.now
     c.args.refused.now c.make_calls.new.refused begun c.args.actors.now (g.N.Node.opening c.args.node.now) (g.N.Node.opening c.make_calls.new.node)
-    (g.N.Node.history c.args.node.now) (g.N.Node.history c.make_calls.new.node) c.in-Some.place c.at_mut-actor.result.now c.make_calls.new.actor c.match-item.number.0 c.first_stop-stop.result
-    c.in-Some.ensures.place.0 c.first_stop-stop.ensures c.at_mut-actor.ensures.value e.stands e.others e.refused
+    (g.N.Node.history c.args.node.now) (g.N.Node.history c.make_calls.new.node) c.in-Some.place c.at_mut-actor.result.now c.make_calls.new.actor c.match-item.number.0 c.stop_of-stop.result
+    c.in-Some.ensures.place.0 c.stop_of-stop.ensures c.at_mut-actor.ensures.value e.stands e.others e.refused
 
 pub returns-in-Some-clause-follows : goal.returns-in-Some-clause-follows
 returns-in-Some-clause-follows g c n agreed =

@@ -97,8 +97,8 @@ loop-at-preserved g c =
       same_length = length-set c.loop-at.actors p c.make_call.new.actor ∙ i.same_length;
       stand = λ begun all. all_stand-at g.A.Actor.stands_for g.A.Actor.step_now g.A.Actor.is_stopped g.A.Actor.same_origin first c.args.stops.now
           c.loop-at.refused c.make_call.new.refused begun c.loop-at.actors (g.N.Node.opening c.loop-at.node) (g.N.Node.opening c.make_call.new.node)
-          (g.N.Node.history c.loop-at.node) (g.N.Node.history c.make_call.new.node) p c.at_mut.result.now c.make_call.new.actor (first + p) c.first_stop-stop.result
-          refl c.first_stop-stop.ensures there e.stands e.others e.refused (i.stand begun all);
+          (g.N.Node.history c.loop-at.node) (g.N.Node.history c.make_call.new.node) p c.at_mut.result.now c.make_call.new.actor (first + p) c.stop_of-stop.result
+          refl c.stop_of-stop.ensures there e.stands e.others e.refused (i.stand begun all);
       others = λ other outside. e.others other
           (⊎_elim (λ (below : other < first). (λ same. omega arith)) (λ (above : first + count ≤ other). (λ same. omega arith)) outside)
           ∙ i.others other outside;
