@@ -1,6 +1,6 @@
 //! The driver.
 
-ghost use Rattle.std.specs.Prelude.{◌≡◌, ℕ, ◌+◌, ◌^◌, ◌<◌, ◌≤◌, true, false, Some, None, [], length, slice_get};
+ghost use Rattle.std.specs.Prelude.{◌≡◌, ℕ, ◌+◌, ◌^◌, ◌<◌, ◌≤◌, ◌⊎◌, true, false, Some, None, [], length, slice_get};
 ghost use Rattle.std.specs.List.{range_with_len};
 ghost use Rattle.cbt_model.specs.History.{own};
 ghost use Rattle.cbt_model.specs.Stops.{stop_of};
@@ -62,6 +62,11 @@ pub fn drive_in_order<N: Node, A: Actor>(
         → (first ≤ e.actor) × (e.actor < first + length actors.old) }
     ensures turns { callers (N.history node.new)
         ≡ turns (calls_of (callers (N.history node.new))) (range_with_len first (length actors.old)) order.now (callers (N.history node.old)) }
+
+    // The own list of an actor that is not in the list stays as it is.
+    ensures others { (other : ℕ) → (other < first) ⊎ (first + length actors.old ≤ other)
+        → own (N.opening node.new) (N.history node.new) other (length (N.history node.new))
+        ≡ own (N.opening node.old) (N.history node.old) other (length (N.history node.old)) }
 
     // The clock was moved ahead where the order says.
     ensures marks { AddsMarks result

@@ -49,10 +49,14 @@ returns-clause-kept g c i low =
     let on = goes_on g c in
     ap (λ h. slice_get h i) on.grown ∙ get-longer (g.N.Node.history c.args.node.now) on.added i low
 
+pub returns-clause-others : goal.returns-clause-others
+returns-clause-others g c other outside =
+    c.take_turns.ensures.others other (subst (λ m. (other < c.args.first) ⊎ (c.args.first + m ≤ other)) (sym c.follow_items.ensures.length) outside)
+    ∙ c.follow_items.ensures.others other outside
+
 pub returns-clause-known : goal.returns-clause-known
 returns-clause-known g c =
     let on = goes_on g c in
     known-callers c.args.first (length c.args.actors.now) (g.N.Node.opening c.args.node.now) (g.N.Node.opening c.take_turns.new.node) (g.N.Node.history c.args.node.now) on.added
     (g.N.Node.history c.take_turns.new.node) on.grown
-    (λ other outside. c.take_turns.ensures.others other (subst (λ m. (other < c.args.first) ⊎ (c.args.first + m ≤ other)) (sym c.follow_items.ensures.length) outside)
-    ∙ c.follow_items.ensures.others other outside)
+    (returns-clause-others g c)
