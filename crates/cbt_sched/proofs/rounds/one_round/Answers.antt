@@ -4,9 +4,9 @@ use Rattle.cbt_sched.specs.Driving.{InRound, asks}
 use Rattle.cbt_sched.specs.Positions.{PassesOver, next_of}
 use Rattle.cbt_sched.specs.Turns.{callers}
 use Rattle.cbt_sched.specs.declared.going.Going.{Going}
-use Rattle.cbt_sched.proofs.Actors.{all_stand-at, asks-others, asks-there, asks-set_there, asks-within, ended-all, ended-below, ended-next, fewer-next, sum-fewer, sum-no_more, visit-of_turn, visits-there}
+use Rattle.cbt_sched.proofs.Actors.{asks-others, asks-there, asks-set_there, asks-within, ended-all, ended-below, ended-next, fewer-next, keeps-at, sum-fewer, sum-no_more, visit-of_turn, visits-there}
+use Rattle.cbt_sched.proofs.Keeping.{keeps-count, keeps-further, keeps-same}
 use Rattle.cbt_sched.proofs.Leading.{ended-skip, idle-ended, leads_on-next, skip, span-next, stays-ended}
-use Rattle.cbt_sched.proofs.Nodes.{goes_on-further, goes_on-same}
 use Rattle.cbt_sched.proofs.Rounding.{round-next, round-over}
 use Rattle.cbt_sched.proofs.rounds.one_round.Goals as goal
 use Rattle.cbt_sched.proofs.rounds.one_round.Goals.{then-make_call, else-make_call}
@@ -23,11 +23,9 @@ loop-at-init g c =
       before = omega arith;
       going = c.requires.going;
       span = λ j from to. c.requires.going.over 0 j (omega arith) (omega arith) (omega arith);
-      node = goes_on-same g.N.Node.opening g.N.Node.history g.N.Node.terms g.N.Node.reads_by _;
+      keeps = keeps-same;
       marks = refl;
       same_length = refl;
-      stand = λ begun all. all;
-      others = λ other outside. refl;
       round = λ ordered at_first r so_far. skip c.args.first (length c.args.actors.now) ordered at_first r _ _ 0 (c.after-at.result - 1) (omega arith)
           (λ j from to. c.requires.going.over 0 j (omega arith) (omega arith) (omega arith)) so_far;
       ended = λ none. ended-skip c.args.first 0 (c.after-at.result - 1) (asks g.A.Actor.step_now c.args.first c.args.actors.now)
@@ -35,7 +33,6 @@ loop-at-init g c =
           (λ j from to. c.requires.going.over 0 j (omega arith) (omega arith) (omega arith));
       no_more = omega arith;
       fewer = λ some. absurd (cc);
-      refused = λ fine. fine;
     }
 
 pub loop-at-preserved : goal.loop-at-preserved
@@ -92,16 +89,11 @@ loop-at-preserved g c =
       going = leads;
       span = λ j from to. span-next first count next next' asking asking' c.loop-at.last p made i.going others stays idle low within i.span called_going idle_going
           c.if-make_call.last called_last idle_last j from (omega arith);
-      node = goes_on-further g.N.Node.opening g.N.Node.history g.N.Node.terms g.N.Node.reads_by _ _ _ i.node e.node;
+      keeps = keeps-further i.keeps (keeps-count i.same_length
+          (keeps-at g.N.Node g.A.Actor first c.args.stops.now c.loop-at.refused c.make_call.new.refused c.loop-at.node c.make_call.new.node
+          c.loop-at.actors p c.at_mut.result.now c.make_call.new.actor there (first + p) c.stop_of-stop.result refl c.stop_of-stop.ensures e.keeps));
       marks = e.marks ∙ i.marks;
       same_length = length-set c.loop-at.actors p c.make_call.new.actor ∙ i.same_length;
-      stand = λ begun all. all_stand-at g.A.Actor.stands_for g.A.Actor.step_now g.A.Actor.is_stopped g.A.Actor.same_origin first c.args.stops.now
-          c.loop-at.refused c.make_call.new.refused begun c.loop-at.actors (g.N.Node.opening c.loop-at.node) (g.N.Node.opening c.make_call.new.node)
-          (g.N.Node.history c.loop-at.node) (g.N.Node.history c.make_call.new.node) p c.at_mut.result.now c.make_call.new.actor (first + p) c.stop_of-stop.result
-          refl c.stop_of-stop.ensures there e.stands e.others e.refused (i.stand begun all);
-      others = λ other outside. e.others other
-          (⊎_elim (λ (below : other < first). (λ same. omega arith)) (λ (above : first + count ≤ other). (λ same. omega arith)) outside)
-          ∙ i.others other outside;
       round = λ ordered at_first r before. skip first count ordered at_first r _ asking' (p + 1) (c.after-at-in-loop-at.result - 1) (omega arith) over
           (round-next first count ordered at_first r p _ _ asking asking' (i.round ordered at_first r before)
           (visits-there g.A.Actor.step_now first c.loop-at.actors p c.at_mut.result.now c.make_call.new.actor _ _ _ there (visit-of_turn made _ _ _ _ _ e.turn)) others);
@@ -111,7 +103,6 @@ loop-at-preserved g c =
       no_more = (let before = i.no_more in omega arith);
       fewer = fewer-next made c.loop-at.called c.if-make_call.called _ _ _
           (λ some. sum-fewer g.A.Actor.calls_left c.loop-at.actors p c.at_mut.result.now c.make_call.new.actor there (e.fewer some)) idle_called no_more i.no_more i.fewer;
-      refused = λ fine. i.refused (e.refused fine);
     }
 
 pub returns-clause-round : goal.returns-clause-round
