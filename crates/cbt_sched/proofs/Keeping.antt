@@ -1,5 +1,5 @@
 -- What each step keeps, from step to step.
-use Rattle.std.proofs.Common.{◌≡◌, ℕ, Bool, List, [], ◌++◌, append_assoc, length, sym, ap, ◌∙◌, refl, subst}
+use Rattle.std.proofs.Common.{◌≡◌, ℕ, Bool, [], ◌++◌, append_assoc, length, sym, ap, ◌∙◌, refl, subst}
 use Rattle.std.proofs.lemmas.List.{append-nil}
 use Rattle.cbt_model.specs.History.{own}
 use Rattle.cbt_model.specs.declared.nodes.Node.{Ghosts as NodeOf}

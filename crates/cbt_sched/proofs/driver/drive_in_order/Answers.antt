@@ -1,4 +1,4 @@
-use Rattle.std.proofs.Common.{◌≤◌, ◌<◌, ◌+◌, ◌⊎◌, false, length, subst, sym, ap, ◌∙◌, slice_get, arith}
+use Rattle.std.proofs.Common.{◌+◌, false, length, sym, ap, ◌∙◌, slice_get, arith}
 use Rattle.cbt_model.proofs.Longer.{get-longer}
 use Rattle.cbt_sched.specs.Driving.{AllStand, IsOutside, Keeps}
 use Rattle.cbt_sched.proofs.Actors.{no-step}

@@ -1,4 +1,4 @@
-use Rattle.std.proofs.Common.{◌+◌, ◌<◌, ◌≤◌, ◌⊎◌, length, subst, sym, ◌∙◌, refl, arith}
+use Rattle.std.proofs.Common.{◌<◌, length, subst, sym, ◌∙◌, refl, arith}
 use Rattle.std.proofs.lemmas.List.{take_more}
 use Rattle.cbt_sched.specs.Driving.{Follows, asks}
 use Rattle.cbt_sched.specs.Turns.{callers}
