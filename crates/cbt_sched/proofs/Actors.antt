@@ -44,7 +44,8 @@ module _ {A : Type 0} (step_now : A → Option Step) (first : ℕ) where
   pub asks-there : (actors : List A) (k : ℕ) (a : A) → slice_get actors k ≡ Some a → asks step_now first actors (first + k) ≡ is_some (step_now a)
   asks-there actors k a there = asks-place actors k ∙ ap (λ o. is_some (option_and_then step_now o)) there
 
-  pub asks-set_there : (actors : List A) (k : ℕ) (a : A) → k < length actors → asks step_now first (slice_set actors k a) (first + k) ≡ is_some (step_now a)
+  pub asks-set_there : (actors : List A) (k : ℕ) (a : A) → k < length actors
+      → asks step_now first (slice_set actors k a) (first + k) ≡ is_some (step_now a)
   asks-set_there actors k a low = asks-there (slice_set actors k a) k a (get-set_there actors k a low)
 
   pub asks-set_elsewhere : (actors : List A) (k : ℕ) (a : A) (number : ℕ) → number ≢ first + k
@@ -93,7 +94,8 @@ module _ {A : Type 0} (step_now : A → Option Step) (first : ℕ) where
       → Visits (first + k) limit old new (asks step_now first actors (first + k)) (asks step_now first (slice_set actors k a') (first + k))
   visits-there actors k a a' limit old new there visit =
       subst (λ b. Visits (first + k) limit old new b (asks step_now first (slice_set actors k a') (first + k))) (sym (asks-there actors k a there))
-      (subst (λ b. Visits (first + k) limit old new (is_some (step_now a)) b) (sym (asks-set_there actors k a' (slice_get_within actors k a there))) visit)
+      (subst (λ b. Visits (first + k) limit old new (is_some (step_now a)) b)
+      (sym (asks-set_there actors k a' (slice_get_within actors k a there))) visit)
 
   -- those up to here have ended, where no one called
   pub ended-next : (actors : List A) (k : ℕ) (a a' : A) (made called called' : Bool) (old new : List ℕ) → slice_get actors k ≡ Some a
@@ -101,11 +103,13 @@ module _ {A : Type 0} (step_now : A → Option Step) (first : ℕ) where
       → (made ≡ true → called' ≡ true) → (made ≡ false → called' ≡ called)
       → (called ≡ false → (number : ℕ) → number < first + k → asks step_now first actors number ≡ false)
       → called' ≡ false → (number : ℕ) → number < first + (k + 1) → asks step_now first (slice_set actors k a') number ≡ false
-  ended-next actors k a a' true called called' old new there turn when_called when_idle before still number low = absurd (let clash : true ≡ false = sym (when_called refl) ∙ still in cc)
+  ended-next actors k a a' true called called' old new there turn when_called when_idle before still number low =
+      absurd (let clash : true ≡ false = sym (when_called refl) ∙ still in cc)
   ended-next actors k a a' false called called' old new there turn when_called when_idle before still number low =
       ⊎_elim (λ (same : number ≡ first + k).
       ap (λ m. asks step_now first (slice_set actors k a') m) same ∙ asks-set_there actors k a' (slice_get_within actors k a there) ∙ turn.ended)
-      (λ (apart : number ≢ first + k). asks-set_elsewhere actors k a' number apart ∙ before (sym (when_idle refl) ∙ still) number (omega arith)) (same_or_apart number (first + k))
+      (λ (apart : number ≢ first + k). asks-set_elsewhere actors k a' number apart ∙ before (sym (when_idle refl) ∙ still) number (omega arith))
+      (same_or_apart number (first + k))
 
 -- no one asks where no one in the list does
 pub ended-all : {A : Type 0} (step_now : A → Option Step) (first count : ℕ) (actors : List A) → length actors ≡ count
@@ -117,7 +121,8 @@ ended-all step_now first count actors all ended number = choice (asks step_now f
     choice false still = still
 
 -- nor does a number below the list
-pub ended-below : {A : Type 0} (step_now : A → Option Step) (first : ℕ) (actors : List A) (number : ℕ) → number < first → asks step_now first actors number ≡ false
+pub ended-below : {A : Type 0} (step_now : A → Option Step) (first : ℕ) (actors : List A) (number : ℕ) → number < first
+    → asks step_now first actors number ≡ false
 ended-below step_now first actors number low = choice (asks step_now first actors number) refl
   where
     choice : (b : Bool) → asks step_now first actors number ≡ b → asks step_now first actors number ≡ false
@@ -153,7 +158,8 @@ module _ {N A : Type 0} (nodes : NodeOf N) (kind : ActorOf A) where
     goes_on = goes_on-still nodes old new opening history terms readings;
     stand = λ begun all. record {
       same_length = all.same_length;
-      each = λ k b a at is. stands-still (first + k) (stop_of stops (first + k)) b a refused refused' old new (same (first + k)) sticky (all.each k b a at is);
+      each = λ k b a at is. stands-still (first + k) (stop_of stops (first + k)) b a refused refused' old new (same (first + k)) sticky
+          (all.each k b a at is);
     };
     others = λ other outside. same other;
     sticky = sticky;
@@ -206,7 +212,8 @@ module _ {N A : Type 0} (nodes : NodeOf N) (kind : ActorOf A) where
         (subst (λ o. Keeps nodes (Stands nodes kind number o) (λ other. other ≢ number) refused old a refused' new a') is turn))
 
 -- a visit, by the actor's number
-pub visits-at : {A : Type 0} (step_now : A → Option Step) (first : ℕ) (actors : List A) (k : ℕ) (a a' : A) (number : ℕ) (limit : Option ℕ) (old new : List ℕ)
+pub visits-at : {A : Type 0} (step_now : A → Option Step) (first : ℕ) (actors : List A) (k : ℕ) (a a' : A)
+    (number : ℕ) (limit : Option ℕ) (old new : List ℕ)
     → first + k ≡ number → slice_get actors k ≡ Some a
     → Visits number limit old new (is_some (step_now a)) (is_some (step_now a'))
     → Visits number limit old new (asks step_now first actors number) (asks step_now first (slice_set actors k a') number)
@@ -222,7 +229,8 @@ asks-others step_now first actors k a number same other apart = asks-set_elsewhe
 
 -- a number that is not in the list does not ask, and its visit makes no call
 pub visits-unknown : {A : Type 0} (step_now : A → Option Step) (first : ℕ) (actors : List A) (number : ℕ) (limit : Option ℕ) (calls : List ℕ)
-    → (number < first) ⊎ (first + length actors ≤ number) → Visits number limit calls calls (asks step_now first actors number) (asks step_now first actors number)
+    → (number < first) ⊎ (first + length actors ≤ number)
+    → Visits number limit calls calls (asks step_now first actors number) (asks step_now first actors number)
 visits-unknown step_now first actors number limit calls unknown = record {
   calls = 0;
   added = sym (append-nil calls);
@@ -234,7 +242,8 @@ visits-unknown step_now first actors number limit calls unknown = record {
     choice : (b : Bool) → asks step_now first actors number ≡ b → asks step_now first actors number ≡ false
     choice true asking =
         absurd (let at = asks-within step_now first actors number asking in
-        ⊎_elim (λ (low : number < first). (let from = at.0 in omega arith)) (λ (high : first + length actors ≤ number). (let to = at.1 in omega arith)) unknown)
+        ⊎_elim (λ (low : number < first). (let from = at.0 in omega arith))
+        (λ (high : first + length actors ≤ number). (let to = at.1 in omega arith)) unknown)
     choice false still = still
 
     none : asks step_now first actors number ≡ false
@@ -254,7 +263,10 @@ module _ {A : Type 0} (calls_left : A → ℕ) (actors : List A) (k : ℕ) (a a'
   sum-fewer less = let sum = sum-set in omega arith
 
 -- fewer calls are left where anyone called
-pub fewer-next : (made called called' : Bool) (old mid new : ℕ) → (made ≡ true → new < mid) → (made ≡ false → called' ≡ called) → new ≤ mid → mid ≤ old
+pub fewer-next : (made called called' : Bool) (old mid new : ℕ) → (made ≡ true → new < mid) → (made ≡ false → called' ≡ called)
+    → new ≤ mid → mid ≤ old
     → (called ≡ true → mid < old) → called' ≡ true → new < old
-fewer-next true called called' old mid new when_called when_idle less before so_far any = let one = when_called refl in omega arith
-fewer-next false called called' old mid new when_called when_idle less before so_far any = let one = so_far (sym (when_idle refl) ∙ any) in omega arith
+fewer-next true called called' old mid new when_called when_idle less before so_far any =
+    let one = when_called refl in omega arith
+fewer-next false called called' old mid new when_called when_idle less before so_far any =
+    let one = so_far (sym (when_idle refl) ∙ any) in omega arith

@@ -22,11 +22,13 @@ item-at [] k low = absurd (omega arith)
 item-at (x ∷ xs) zero low = (x, refl)
 item-at (x ∷ xs) (suc k) low = item-at xs k (omega arith)
 
-pub counterpart : {A : Type 0} (xs ys : List A) (k : ℕ) (x : A) → length xs ≡ length ys → slice_get xs k ≡ Some x → (y : A) × (slice_get ys k ≡ Some y)
+pub counterpart : {A : Type 0} (xs ys : List A) (k : ℕ) (x : A) → length xs ≡ length ys → slice_get xs k ≡ Some x
+    → (y : A) × (slice_get ys k ≡ Some y)
 counterpart xs ys k x same there = item-at ys k (let low = slice_get_within xs k x there in omega arith)
 
 -- the actors as they are begun
-pub all_stand-begun : {N A : Type 0} (nodes : NodeOf N) (kind : ActorOf A) (first : ℕ) (stops : List (ℕ × ℕ)) (refused : Bool) (node : N) (actors : List A)
+pub all_stand-begun : {N A : Type 0} (nodes : NodeOf N) (kind : ActorOf A) (first : ℕ) (stops : List (ℕ × ℕ))
+    (refused : Bool) (node : N) (actors : List A)
     → ((a : A) → kind.same_origin a a) → ((k : ℕ) (a : A) → slice_get actors k ≡ Some a → kind.stands_for a [])
     → ((k : ℕ) → k < length actors → own_at nodes (first + k) node ≡ [])
     → AllStand nodes kind first stops actors refused node actors
@@ -46,7 +48,8 @@ all_stand-begun {N} {A} nodes kind first stops refused node actors itself fresh 
         }
 
 -- calls by place and by actor
-calls_below-all : (h more : List Event) (a : ℕ) → calls_below (h ++ more) a (length (h ++ more)) ≡ calls_below h a (length h) + calls_of (callers more) a
+calls_below-all : (h more : List Event) (a : ℕ)
+    → calls_below (h ++ more) a (length (h ++ more)) ≡ calls_below h a (length h) + calls_of (callers more) a
 calls_below-all h [] a = ap (λ x. calls_below x a (length x)) (append-nil h) ∙ plus-none (calls_below h a (length h))
   where
     plus-none : (n : ℕ) → n ≡ n + 0

@@ -7,7 +7,8 @@ use Rattle.cbt_sched.specs.Driving.{GoesOn, IsOutside, Keeps, own_at}
 
 module _ {N : Type 0} (nodes : NodeOf N) where
   -- a node makes no call
-  pub goes_on-still : (old new : N) → nodes.opening new ≡ nodes.opening old → nodes.history new ≡ nodes.history old → nodes.terms new ≡ nodes.terms old
+  pub goes_on-still : (old new : N) → nodes.opening new ≡ nodes.opening old → nodes.history new ≡ nodes.history old
+      → nodes.terms new ≡ nodes.terms old
       → ((f : ℕ → ℕ) → nodes.reads_by old f → nodes.reads_by new f) → GoesOn nodes old new
   goes_on-still old new opening history terms readings = record {
     opening_stays = opening;

@@ -84,7 +84,8 @@ pub record Visits (number : ℕ) (limit : Option ℕ) (old new : List ℕ) (befo
   pub ended : before ≡ false → (calls ≡ 0) × (after ≡ false)
 
 -- order items were followed from one list of calls to the next, whatever numbers of calls the actors come to
-pub record Follows (items : List Item) (refused : Bool) (old_marks new_marks : List Mark) (old new : List ℕ) (before after : ℕ → Bool) (n : ℕ → ℕ) : Type 0 where
+pub record Follows (items : List Item) (refused : Bool) (old_marks new_marks : List Mark)
+    (old new : List ℕ) (before after : ℕ → Bool) (n : ℕ → ℕ) : Type 0 where
   pub agreed : Agrees old before n
   pub calls : new ≡ after_items n items old
   pub marks : AddsMarks refused (marks_of n items old) old_marks new_marks
@@ -98,6 +99,7 @@ pub record IsAtRound (r : ℕ) (ordered calls : List ℕ) (asking : ℕ → Bool
 pub record InRound (first count : ℕ) (ordered : List ℕ) (at_first : ℕ → Bool) (r k : ℕ) (calls : List ℕ) (asking : ℕ → Bool) : Type 0 where
   pub agreed : (n : ℕ → ℕ) → Agrees calls asking n → Agrees ordered at_first n
   pub so_far : (n : ℕ → ℕ) → Agrees calls asking n
-      → calls ≡ ordered ++ (rounds (left_after n ordered) (range_with_len first count) r ++ filter (λ a. nat_lt r (left_after n ordered a)) (range_with_len first k))
+      → calls ≡ ordered ++ (rounds (left_after n ordered) (range_with_len first count) r
+      ++ filter (λ a. nat_lt r (left_after n ordered a)) (range_with_len first k))
   pub before : (a : ℕ) → a < first + k → IsAtRound (suc r) ordered calls asking a
   pub behind : (a : ℕ) → first + k ≤ a → IsAtRound r ordered calls asking a

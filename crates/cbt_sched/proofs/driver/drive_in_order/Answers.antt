@@ -15,7 +15,8 @@ keeps g c = keeps-further c.follow_items.ensures.keeps (keeps-count c.follow_ite
 
 -- all actors stand at the end
 all_stand : (g : Given.Over) (c : goal.After-take_turns g)
-    → AllStand g.N.Node g.A.Actor c.args.first c.args.stops.now c.args.actors.now c.take_turns.new.refused c.take_turns.new.node c.take_turns.new.actors
+    → AllStand g.N.Node g.A.Actor c.args.first c.args.stops.now c.args.actors.now
+    c.take_turns.new.refused c.take_turns.new.node c.take_turns.new.actors
 all_stand g c =
     (keeps g c).stand c.args.actors.now
     (all_stand-begun g.N.Node g.A.Actor c.args.first c.args.stops.now false c.args.node.now c.args.actors.now
@@ -31,7 +32,8 @@ pub returns-clause-origin : goal.returns-clause-origin
 returns-clause-origin g c k begun a at there = ((all_stand g c).each k begun a at there).origin
 
 pub returns-clause-ended : goal.returns-clause-ended
-returns-clause-ended g c k a there = no-step g.A.Actor.step_now c.args.first c.take_turns.new.actors k a there (c.take_turns.ensures.ended (c.args.first + k))
+returns-clause-ended g c k a there =
+    no-step g.A.Actor.step_now c.args.first c.take_turns.new.actors k a there (c.take_turns.ensures.ended (c.args.first + k))
 
 pub returns-clause-within : goal.returns-clause-within
 returns-clause-within g c k most low stop =
@@ -56,6 +58,7 @@ returns-clause-others g c = (keeps g c).others
 pub returns-clause-known : goal.returns-clause-known
 returns-clause-known g c =
     let on = (keeps g c).goes_on in
-    known-callers c.args.first (length c.args.actors.now) (g.N.Node.opening c.args.node.now) (g.N.Node.opening c.take_turns.new.node) (g.N.Node.history c.args.node.now) on.added
+    known-callers c.args.first (length c.args.actors.now) (g.N.Node.opening c.args.node.now) (g.N.Node.opening c.take_turns.new.node)
+    (g.N.Node.history c.args.node.now) on.added
     (g.N.Node.history c.take_turns.new.node) on.grown
     (keeps g c).others

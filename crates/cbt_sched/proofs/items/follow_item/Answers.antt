@@ -24,8 +24,8 @@ returns-in-Some-clause-follows g c n agreed =
     ] in
     follows-asked c.args.item c.match-item.number asked c.make_calls.new.refused _ _ _ _ _ _
     (asks-others g.A.Actor.step_now c.args.first c.args.actors.now c.in-Some.place c.make_calls.new.actor c.match-item.number.0 same) e.marks n agreed
-    (visits-at g.A.Actor.step_now c.args.first c.args.actors.now c.in-Some.place c.at_mut-actor.result.now c.make_calls.new.actor c.match-item.number.0 _ _ _ same
-    c.at_mut-actor.ensures.value e.calls)
+    (visits-at g.A.Actor.step_now c.args.first c.args.actors.now c.in-Some.place c.at_mut-actor.result.now c.make_calls.new.actor
+    c.match-item.number.0 _ _ _ same c.at_mut-actor.ensures.value e.calls)
 
 pub returns-in_default-clause-follows : goal.returns-in_default-clause-follows
 returns-in_default-clause-follows g c n agreed =
@@ -35,19 +35,20 @@ returns-in_default-clause-follows g c n agreed =
     ] in
     follows-asked c.args.item c.match-item.number asked c.args.refused.now _ _ _ _ _ _ (λ b apart. refl) refl n agreed
     (visits-unknown g.A.Actor.step_now c.args.first c.args.actors.now c.match-item.number.0 _ _
-    (subst (λ m. (c.match-item.number.0 < c.args.first) ⊎ (c.args.first + m ≤ c.match-item.number.0)) c.len.ensures (c.in_default.ensures.unknown refl)))
+    (subst (λ m. (c.match-item.number.0 < c.args.first) ⊎ (c.args.first + m ≤ c.match-item.number.0)) c.len.ensures
+    (c.in_default.ensures.unknown refl)))
 
 pub returns-then-is_err-clause-keeps : goal.returns-then-is_err-clause-keeps
 returns-then-is_err-clause-keeps g c =
     let e = c.advance.ensures in
-    keeps-ahead g.N.Node g.A.Actor c.args.first c.args.stops.now _ c.args.refused.now true c.args.node.now c.advance.new.self c.args.actors.now
-    e.opening e.history e.terms e.readings (λ fine. absurd (cc))
+    keeps-ahead g.N.Node g.A.Actor c.args.first c.args.stops.now _ c.args.refused.now true
+    c.args.node.now c.advance.new.self c.args.actors.now e.opening e.history e.terms e.readings (λ fine. absurd (cc))
 
 pub returns-else-is_err-clause-keeps : goal.returns-else-is_err-clause-keeps
 returns-else-is_err-clause-keeps g c =
     let e = c.advance.ensures in
-    keeps-ahead g.N.Node g.A.Actor c.args.first c.args.stops.now _ c.args.refused.now c.args.refused.now c.args.node.now c.advance.new.self c.args.actors.now
-    e.opening e.history e.terms e.readings (λ fine. fine)
+    keeps-ahead g.N.Node g.A.Actor c.args.first c.args.stops.now _ c.args.refused.now c.args.refused.now
+    c.args.node.now c.advance.new.self c.args.actors.now e.opening e.history e.terms e.readings (λ fine. fine)
 
 pub returns-then-is_err-clause-follows : goal.returns-then-is_err-clause-follows
 returns-then-is_err-clause-follows g c n agreed =

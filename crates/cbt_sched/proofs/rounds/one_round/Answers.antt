@@ -51,15 +51,30 @@ loop-at-preserved g c =
     let next = c.loop-at.going.next in
     let next' = c.if-make_call.going.next in
     let called_called : made ≡ true → c.if-make_call.called ≡ true = λ is.
-    elim c.if-make_call.branch [ then-make_call w ↦ w.called-is | else-make_call w ↦ absurd (let clash : true ≡ false = sym is ∙ w.if-make_call.false in cc) ] in
+    elim c.if-make_call.branch [
+      | then-make_call w ↦ w.called-is
+      | else-make_call w ↦ absurd (let clash : true ≡ false = sym is ∙ w.if-make_call.false in cc)
+    ] in
     let idle_called : made ≡ false → c.if-make_call.called ≡ c.loop-at.called = λ is.
-    elim c.if-make_call.branch [ then-make_call w ↦ absurd (let clash : true ≡ false = sym w.if-make_call.true ∙ is in cc) | else-make_call w ↦ w.called-is ] in
+    elim c.if-make_call.branch [
+      | then-make_call w ↦ absurd (let clash : true ≡ false = sym w.if-make_call.true ∙ is in cc)
+      | else-make_call w ↦ w.called-is
+    ] in
     let called_last : made ≡ true → c.if-make_call.last ≡ p + 1 = λ is.
-    elim c.if-make_call.branch [ then-make_call w ↦ w.last-is ∙ at-is | else-make_call w ↦ absurd (let clash : true ≡ false = sym is ∙ w.if-make_call.false in cc) ] in
+    elim c.if-make_call.branch [
+      | then-make_call w ↦ w.last-is ∙ at-is
+      | else-make_call w ↦ absurd (let clash : true ≡ false = sym is ∙ w.if-make_call.false in cc)
+    ] in
     let idle_last : made ≡ false → c.if-make_call.last ≡ c.loop-at.last = λ is.
-    elim c.if-make_call.branch [ then-make_call w ↦ absurd (let clash : true ≡ false = sym w.if-make_call.true ∙ is in cc) | else-make_call w ↦ w.last-is ] in
+    elim c.if-make_call.branch [
+      | then-make_call w ↦ absurd (let clash : true ≡ false = sym w.if-make_call.true ∙ is in cc)
+      | else-make_call w ↦ w.last-is
+    ] in
     let called_going : made ≡ true → next' ≡ next = λ is.
-    elim c.if-make_call.branch [ then-make_call w ↦ ap (λ (x : Going). x.next) w.going-is | else-make_call w ↦ absurd (let clash : true ≡ false = sym is ∙ w.if-make_call.false in cc) ] in
+    elim c.if-make_call.branch [
+      | then-make_call w ↦ ap (λ (x : Going). x.next) w.going-is
+      | else-make_call w ↦ absurd (let clash : true ≡ false = sym is ∙ w.if-make_call.false in cc)
+    ] in
     let idle_going : made ≡ false → PassesOver c.loop-at.last (p + 1) next next' = λ is.
     elim c.if-make_call.branch [
       | then-make_call w ↦ absurd (let clash : true ≡ false = sym w.if-make_call.true ∙ is in cc)
@@ -72,12 +87,14 @@ loop-at-preserved g c =
     let is = asks-set_there g.A.Actor.step_now first c.loop-at.actors p c.make_call.new.actor (let same = i.same_length in omega arith) in
     let stays : asking (first + p) ≡ false → asking' (first + p) ≡ false = λ still. is ∙ stays-ended made _ _ _ _ _ e.turn (sym was ∙ still) in
     let idle : made ≡ false → asking' (first + p) ≡ false = λ none. is ∙ idle-ended made _ _ _ _ _ e.turn none in
-    let leads = leads_on-next first count next next' asking asking' c.loop-at.last p made i.going others stays idle low within i.span called_going idle_going in
+    let leads = leads_on-next first count next next' asking asking' c.loop-at.last p made
+    i.going others stays idle low within i.span called_going idle_going in
     let at : c.after-at-in-loop-at.result ≡ next_of next' (p + 1) = c.after-at-in-loop-at.ensures ∙ ap (λ m. next_of next' m) at-is in
     let further = leads.further (p + 1) within in
     let one = further.0 in
     let two = further.1 in
-    let over : (j : ℕ) → p + 1 ≤ j → j < c.after-at-in-loop-at.result - 1 → asking' (first + j) ≡ false = λ j from to. leads.over (p + 1) j within from (omega arith) in
+    let over : (j : ℕ) → p + 1 ≤ j → j < c.after-at-in-loop-at.result - 1 → asking' (first + j) ≡ false = λ j from to.
+    leads.over (p + 1) j within from (omega arith) in
     let no_more = sum-no_more g.A.Actor.calls_left c.loop-at.actors p c.at_mut.result.now c.make_call.new.actor there e.no_more in
     record {
       past = omega arith;
@@ -87,8 +104,8 @@ loop-at-preserved g c =
         | else-make_call w ↦ (let last = w.last-is in omega arith)
       ];
       going = leads;
-      span = λ j from to. span-next first count next next' asking asking' c.loop-at.last p made i.going others stays idle low within i.span called_going idle_going
-          c.if-make_call.last called_last idle_last j from (omega arith);
+      span = λ j from to. span-next first count next next' asking asking' c.loop-at.last p made i.going others stays idle low within
+          i.span called_going idle_going c.if-make_call.last called_last idle_last j from (omega arith);
       keeps = keeps-further i.keeps (keeps-count i.same_length
           (keeps-at g.N.Node g.A.Actor first c.args.stops.now c.loop-at.refused c.make_call.new.refused c.loop-at.node c.make_call.new.node
           c.loop-at.actors p c.at_mut.result.now c.make_call.new.actor there (first + p) c.stop_of-stop.result refl c.stop_of-stop.ensures e.keeps));
@@ -96,23 +113,28 @@ loop-at-preserved g c =
       same_length = length-set c.loop-at.actors p c.make_call.new.actor ∙ i.same_length;
       round = λ ordered at_first r before. skip first count ordered at_first r _ asking' (p + 1) (c.after-at-in-loop-at.result - 1) (omega arith) over
           (round-next first count ordered at_first r p _ _ asking asking' (i.round ordered at_first r before)
-          (visits-there g.A.Actor.step_now first c.loop-at.actors p c.at_mut.result.now c.make_call.new.actor _ _ _ there (visit-of_turn made _ _ _ _ _ e.turn)) others);
+          (visits-there g.A.Actor.step_now first c.loop-at.actors p c.at_mut.result.now c.make_call.new.actor _ _ _ there
+          (visit-of_turn made _ _ _ _ _ e.turn)) others);
       ended = λ none. ended-skip first (p + 1) (c.after-at-in-loop-at.result - 1) asking'
-          (ended-next g.A.Actor.step_now first c.loop-at.actors p c.at_mut.result.now c.make_call.new.actor made c.loop-at.called c.if-make_call.called _ _ there e.turn
-          called_called idle_called i.ended none) over;
+          (ended-next g.A.Actor.step_now first c.loop-at.actors p c.at_mut.result.now c.make_call.new.actor made c.loop-at.called
+          c.if-make_call.called _ _ there e.turn called_called idle_called i.ended none) over;
       no_more = (let before = i.no_more in omega arith);
       fewer = fewer-next made c.loop-at.called c.if-make_call.called _ _ _
-          (λ some. sum-fewer g.A.Actor.calls_left c.loop-at.actors p c.at_mut.result.now c.make_call.new.actor there (e.fewer some)) idle_called no_more i.no_more i.fewer;
+          (λ some. sum-fewer g.A.Actor.calls_left c.loop-at.actors p c.at_mut.result.now c.make_call.new.actor there (e.fewer some))
+          idle_called no_more i.no_more i.fewer;
     }
 
 pub returns-clause-round : goal.returns-clause-round
 returns-clause-round g c ordered at_first r before =
     let i = c.loop-at.invariant in
-    let all : c.loop-at.at - 1 ≡ length c.args.actors.now = (let past = c.loop-at-test.false in let count = c.len.ensures in let most = i.most in let same = i.same_length in omega arith) in
+    let all : c.loop-at.at - 1 ≡ length c.args.actors.now =
+    (let past = c.loop-at-test.false in let count = c.len.ensures in let most = i.most in let same = i.same_length in omega arith) in
     round-over c.args.first (length c.args.actors.now) ordered at_first r _ _
-    (subst (λ k. InRound c.args.first (length c.args.actors.now) ordered at_first r k (callers (g.N.Node.history c.loop-at.node)) (asks g.A.Actor.step_now c.args.first c.loop-at.actors)) all
+    (subst (λ k. InRound c.args.first (length c.args.actors.now) ordered at_first r k (callers (g.N.Node.history c.loop-at.node))
+    (asks g.A.Actor.step_now c.args.first c.loop-at.actors)) all
     (i.round ordered at_first r before))
-    (λ a asking. subst (λ m. (c.args.first ≤ a) × (a < c.args.first + m)) i.same_length (asks-within g.A.Actor.step_now c.args.first c.loop-at.actors a asking))
+    (λ a asking. subst (λ m. (c.args.first ≤ a) × (a < c.args.first + m)) i.same_length
+    (asks-within g.A.Actor.step_now c.args.first c.loop-at.actors a asking))
 
 pub returns-clause-ended : goal.returns-clause-ended
 returns-clause-ended g c none =

@@ -16,8 +16,10 @@ invariant-loop-at g l = record {
   marks : g.N.Node.marks l.node ≡ g.N.Node.marks l.initial.node;
   same_length : length l.actors ≡ length l.initial.actors;
   round : (ordered : List ℕ) (at_first : ℕ → Bool) (r : ℕ)
-      → InRound l.first (length l.initial.actors) ordered at_first r 0 (callers (g.N.Node.history l.initial.node)) (asks g.A.Actor.step_now l.first l.initial.actors)
-      → InRound l.first (length l.initial.actors) ordered at_first r (l.at - 1) (callers (g.N.Node.history l.node)) (asks g.A.Actor.step_now l.first l.actors);
+      → InRound l.first (length l.initial.actors) ordered at_first r 0 (callers (g.N.Node.history l.initial.node))
+      (asks g.A.Actor.step_now l.first l.initial.actors)
+      → InRound l.first (length l.initial.actors) ordered at_first r (l.at - 1) (callers (g.N.Node.history l.node))
+      (asks g.A.Actor.step_now l.first l.actors);
   ended : l.called ≡ false → (number : ℕ) → number < l.first + (l.at - 1) → asks g.A.Actor.step_now l.first l.actors number ≡ false;
   no_more : sum_by g.A.Actor.calls_left l.actors ≤ sum_by g.A.Actor.calls_left l.initial.actors;
   fewer : l.called ≡ true → sum_by g.A.Actor.calls_left l.actors < sum_by g.A.Actor.calls_left l.initial.actors;

@@ -24,7 +24,8 @@ returns-clause-rounds g c =
 
 pub loop-alloc-init : goal.loop-alloc-init
 loop-alloc-init g c = record {
-  going = leads_on-begun c.args.first (length c.args.actors.now) c.all-going.result.next (asks g.A.Actor.step_now c.args.first c.args.actors.now) c.all-going.ensures;
+  going = leads_on-begun c.args.first (length c.args.actors.now) c.all-going.result.next
+      (asks g.A.Actor.step_now c.args.first c.args.actors.now) c.all-going.ensures;
   keeps = keeps-same;
   marks = refl;
   same_length = refl;

@@ -7,7 +7,8 @@ pub loop-node-preserved : goal.loop-node-preserved
 loop-node-preserved g c = record {
   keeps = keeps-further c.loop-node.invariant.keeps c.if-make_call.ensures.keeps;
   marks = c.if-make_call.ensures.marks ∙ c.loop-node.invariant.marks;
-  calls = visiting-next _ _ _ _ _ _ _ _ _ _ c.loop-node.invariant.calls c.if-make_call.ensures.turn (not-spent _ c.loop-node-test.ensures) (search rules);
+  calls = visiting-next _ _ _ _ _ _ _ _ _ _ c.loop-node.invariant.calls c.if-make_call.ensures.turn
+      (not-spent _ c.loop-node-test.ensures) (search rules);
 }
 
 pub returns-else-make_call-clause-keeps : goal.returns-else-make_call-clause-keeps
