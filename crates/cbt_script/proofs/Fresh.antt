@@ -1,6 +1,7 @@
 -- The opening of a script is fresh.
-use Rattle.std.proofs.Common.{◌≡◌, ℕ, ◌+◌, ◌<◌, ◌≤◌, Bool, true, false, cond, List, [], ◌∷◌, length, Some, None, refl, sym, ap, ◌∙◌, subst, arith}
+use Rattle.std.proofs.Common.{◌≡◌, ℕ, suc, ◌+◌, ◌<◌, Bool, true, false, cond, List, [], ◌∷◌, length, Some, None, refl, sym, ap, ◌∙◌, subst, arith}
 use Rattle.std.proofs.lemmas.Option.{none-some}
+use Rattle.std.specs.List.Sorted.{IsStrictlySortedBy}
 use Rattle.std.specs.Ordering.{is_eq}
 use Rattle.cbt_base.specs.Keyed.{Rises, at_key, with_pair}
 use Rattle.cbt_base.proofs.Maps.{at_key-with_pair, rises-with_pair}
@@ -48,11 +49,12 @@ all next (d ∷ ds) docs before =
     subst (λ n. Unwritten n (docs_from (next + 1) ds (with_pair doc_cmp docs d.0 (first_state next d.1 d.2)))) (at_end next (length ds))
     (all (next + 1) ds (with_pair doc_cmp docs d.0 (first_state next d.1 d.2)) (one_more next docs d.0 d.1 d.2 before))
   where
-    at_end : (n k : ℕ) → n + 1 + k ≡ n + (k + 1)
+    at_end : (n k : ℕ) → n + 1 + k ≡ n + suc k
     at_end n k = omega arith
 
 -- nobody has written in the state before a script's run
 pub openings-fresh : (docs : List (List ℕ × Tree × Tree)) → IsFresh (opening_of docs)
+unfolding IsStrictlySortedBy
 openings-fresh docs = record {
   ordered = record { docs = written.rises; entries = tt; clients = tt };
   entries = refl;
