@@ -8,8 +8,6 @@ mod expressions;
 mod laws;
 mod operators;
 mod plans;
-#[cfg(test)]
-mod tests;
 mod values;
 
 pub use expressions::{Cmp, Cond, Expr, Sign, Term};

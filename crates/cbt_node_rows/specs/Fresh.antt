@@ -1,5 +1,5 @@
 -- Actors before their first call.
-use Rattle.std.specs.Prelude.{◌≡◌, ℕ, List, [], Some, slice_get}
+use Rattle.std.specs.Prelude.{◌≡◌, ℕ, List, Some, slice_get}
 use Rattle.cbt_node_rows.specs.declared.workers.Worker.{Worker}
 use Rattle.cbt_node_rows.specs.declared.workers.Worker.TheVariants.{Reads, Watches}
 

@@ -5,14 +5,14 @@ use Rattle.std.proofs.lemmas.Grind.{common_steps}
 use Rattle.std.proofs.lemmas.List.{append-nil, length-set}
 use Rattle.std.proofs.lemmas.List.Sums.{sum_by-set}
 use Rattle.std.proofs.lemmas.Option.{slice_get_within, get_or_from_slice_get}
-use Rattle.cbt_model.specs.History.{own}
-use Rattle.cbt_model.specs.declared.events.Event.{Event}
-use Rattle.cbt_model.specs.declared.events.Made.{Made}
-use Rattle.cbt_model.specs.declared.states.State.{State}
+use Rattle.cbt_model.specs.Stops.{stop_of}
+use Rattle.cbt_model.specs.declared.actors.Actor.{Ghosts as ActorOf}
+use Rattle.cbt_model.specs.declared.nodes.Node.{Ghosts as NodeOf}
 use Rattle.cbt_model.specs.declared.steps.Step.{Step}
-use Rattle.cbt_sched.specs.Driving.{AllStand, Called, Idle, Stands, Visits, asks}
-use Rattle.cbt_sched.specs.Stopping.{first_stop}
+use Rattle.cbt_sched.specs.Driving.{AllStand, Called, Idle, IsOutside, Keeps, Stands, Visits, asks, own_at}
+use Rattle.cbt_sched.specs.Stopping.{StopReached}
 use Rattle.cbt_sched.proofs.Counting.{same_or_apart}
+use Rattle.cbt_sched.proofs.Keeping.{goes_on-still, own-still}
 use Rattle.cbt_sched.proofs.Visiting.{visits-one, visits-none}
 
 module _ {A : Type 0} where
@@ -44,7 +44,8 @@ module _ {A : Type 0} (step_now : A → Option Step) (first : ℕ) where
   pub asks-there : (actors : List A) (k : ℕ) (a : A) → slice_get actors k ≡ Some a → asks step_now first actors (first + k) ≡ is_some (step_now a)
   asks-there actors k a there = asks-place actors k ∙ ap (λ o. is_some (option_and_then step_now o)) there
 
-  pub asks-set_there : (actors : List A) (k : ℕ) (a : A) → k < length actors → asks step_now first (slice_set actors k a) (first + k) ≡ is_some (step_now a)
+  pub asks-set_there : (actors : List A) (k : ℕ) (a : A) → k < length actors
+      → asks step_now first (slice_set actors k a) (first + k) ≡ is_some (step_now a)
   asks-set_there actors k a low = asks-there (slice_set actors k a) k a (get-set_there actors k a low)
 
   pub asks-set_elsewhere : (actors : List A) (k : ℕ) (a : A) (number : ℕ) → number ≢ first + k
@@ -93,7 +94,8 @@ module _ {A : Type 0} (step_now : A → Option Step) (first : ℕ) where
       → Visits (first + k) limit old new (asks step_now first actors (first + k)) (asks step_now first (slice_set actors k a') (first + k))
   visits-there actors k a a' limit old new there visit =
       subst (λ b. Visits (first + k) limit old new b (asks step_now first (slice_set actors k a') (first + k))) (sym (asks-there actors k a there))
-      (subst (λ b. Visits (first + k) limit old new (is_some (step_now a)) b) (sym (asks-set_there actors k a' (slice_get_within actors k a there))) visit)
+      (subst (λ b. Visits (first + k) limit old new (is_some (step_now a)) b)
+      (sym (asks-set_there actors k a' (slice_get_within actors k a there))) visit)
 
   -- those up to here have ended, where no one called
   pub ended-next : (actors : List A) (k : ℕ) (a a' : A) (made called called' : Bool) (old new : List ℕ) → slice_get actors k ≡ Some a
@@ -101,11 +103,13 @@ module _ {A : Type 0} (step_now : A → Option Step) (first : ℕ) where
       → (made ≡ true → called' ≡ true) → (made ≡ false → called' ≡ called)
       → (called ≡ false → (number : ℕ) → number < first + k → asks step_now first actors number ≡ false)
       → called' ≡ false → (number : ℕ) → number < first + (k + 1) → asks step_now first (slice_set actors k a') number ≡ false
-  ended-next actors k a a' true called called' old new there turn when_called when_idle before still number low = absurd (let clash : true ≡ false = sym (when_called refl) ∙ still in cc)
+  ended-next actors k a a' true called called' old new there turn when_called when_idle before still number low =
+      absurd (let clash : true ≡ false = sym (when_called refl) ∙ still in cc)
   ended-next actors k a a' false called called' old new there turn when_called when_idle before still number low =
       ⊎_elim (λ (same : number ≡ first + k).
       ap (λ m. asks step_now first (slice_set actors k a') m) same ∙ asks-set_there actors k a' (slice_get_within actors k a there) ∙ turn.ended)
-      (λ (apart : number ≢ first + k). asks-set_elsewhere actors k a' number apart ∙ before (sym (when_idle refl) ∙ still) number (omega arith)) (same_or_apart number (first + k))
+      (λ (apart : number ≢ first + k). asks-set_elsewhere actors k a' number apart ∙ before (sym (when_idle refl) ∙ still) number (omega arith))
+      (same_or_apart number (first + k))
 
 -- no one asks where no one in the list does
 pub ended-all : {A : Type 0} (step_now : A → Option Step) (first count : ℕ) (actors : List A) → length actors ≡ count
@@ -117,7 +121,8 @@ ended-all step_now first count actors all ended number = choice (asks step_now f
     choice false still = still
 
 -- nor does a number below the list
-pub ended-below : {A : Type 0} (step_now : A → Option Step) (first : ℕ) (actors : List A) (number : ℕ) → number < first → asks step_now first actors number ≡ false
+pub ended-below : {A : Type 0} (step_now : A → Option Step) (first : ℕ) (actors : List A) (number : ℕ) → number < first
+    → asks step_now first actors number ≡ false
 ended-below step_now first actors number low = choice (asks step_now first actors number) refl
   where
     choice : (b : Bool) → asks step_now first actors number ≡ b → asks step_now first actors number ≡ false
@@ -130,76 +135,85 @@ pub visit-of_turn : (made : Bool) (number : ℕ) (old new : List ℕ) (before af
 visit-of_turn true number old new before after turn = visits-one number old new before after turn
 visit-of_turn false number old new before after turn = visits-none number old new before after turn
 
--- the actors stand after one of them had its turn
-pub all_stand-set : {A : Type 0} (stands_for : A → List Made → Type 0) (step_now : A → Option Step) (is_stopped : A → Bool) (same_origin : A → A → Type 0)
-    (first : ℕ) (stops : List (ℕ × ℕ)) (refused refused' : Bool) (begun now : List A) (s s' : State) (h h' : List Event) (k : ℕ) (a a' : A)
-    → slice_get now k ≡ Some a
-    → ((b : A) → Stands stands_for step_now is_stopped same_origin (first_stop stops (first + k)) refused b a (own s h (first + k) (length h))
-    → Stands stands_for step_now is_stopped same_origin (first_stop stops (first + k)) refused' b a' (own s' h' (first + k) (length h')))
-    → ((other : ℕ) → other ≢ first + k → own s' h' other (length h') ≡ own s h other (length h))
-    → (refused' ≡ false → refused ≡ false)
-    → AllStand stands_for step_now is_stopped same_origin first stops refused begun now s h
-    → AllStand stands_for step_now is_stopped same_origin first stops refused' begun (slice_set now k a') s' h'
-all_stand-set {A} stands_for step_now is_stopped same_origin first stops refused refused' begun now s s' h h' k a a' there turn others sticky all = record {
-  same_length = length-set now k a' ∙ all.same_length;
-  each = λ j b x at is. ⊎_elim (λ (same : j ≡ k). here j b x at is same) (λ (apart : j ≢ k). elsewhere j b x at is apart) (same_or_apart j k);
-}
-  where
-    here : (j : ℕ) (b x : A) → slice_get begun j ≡ Some b → slice_get (slice_set now k a') j ≡ Some x → j ≡ k
-        → Stands stands_for step_now is_stopped same_origin (first_stop stops (first + j)) refused' b x (own s' h' (first + j) (length h'))
-    here j b x at is same =
-        let set : Some x ≡ Some a' = sym is ∙ ap (λ i. slice_get (slice_set now k a') i) same ∙ get-set_there now k a' (slice_get_within now k a there) in
-        let new : x ≡ a' = cc in
-        subst (λ i. Stands stands_for step_now is_stopped same_origin (first_stop stops (first + i)) refused' b x (own s' h' (first + i) (length h'))) (sym same)
-        (subst (λ y. Stands stands_for step_now is_stopped same_origin (first_stop stops (first + k)) refused' b y (own s' h' (first + k) (length h'))) (sym new)
-        (turn b (all.each k b a (ap (λ i. slice_get begun i) (sym same) ∙ at) there)))
+-- what is kept of an actor, and of the list that it stands in
+module _ {N A : Type 0} (nodes : NodeOf N) (kind : ActorOf A) where
+  -- an actor stands as before where its own list stays
+  stands-still : (number : ℕ) (stop : Option ℕ) (begun now : A) (refused refused' : Bool) (old new : N)
+      → own_at nodes number new ≡ own_at nodes number old → (refused' ≡ false → refused ≡ false)
+      → Stands nodes kind number stop begun refused old now → Stands nodes kind number stop begun refused' new now
+  stands-still number stop begun now refused refused' old new same sticky before = record {
+    stands = subst (λ l. kind.stands_for now l) (sym same) before.stands;
+    origin = before.origin;
+    within = λ most is. subst (λ l. length l ≤ most) (sym same) (before.within most is);
+    cause = λ fine running stopped. subst (λ l. StopReached kind.stands_for kind.step_now kind.same_origin stop begun l) (sym same)
+        (before.cause (sticky fine) running stopped);
+  }
 
-    elsewhere : (j : ℕ) (b x : A) → slice_get begun j ≡ Some b → slice_get (slice_set now k a') j ≡ Some x → j ≢ k
-        → Stands stands_for step_now is_stopped same_origin (first_stop stops (first + j)) refused' b x (own s' h' (first + j) (length h'))
-    elsewhere j b x at is apart =
-        let before = all.each j b x at (sym (get-set_elsewhere now k j a' apart) ∙ is) in
-        subst (λ l. Stands stands_for step_now is_stopped same_origin (first_stop stops (first + j)) refused' b x l) (sym (others (first + j) (λ same. apart (plus-same same))))
-        (record { stands = before.stands; origin = before.origin; within = before.within; cause = λ fine. before.cause (sticky fine) })
+  -- the clock was moved ahead, or there was no memory for its mark
+  pub keeps-ahead : (first : ℕ) (stops : List (ℕ × ℕ)) (IsOther : ℕ → Type 0) (refused refused' : Bool) (old new : N) (actors : List A)
+      → nodes.opening new ≡ nodes.opening old → nodes.history new ≡ nodes.history old → nodes.terms new ≡ nodes.terms old
+      → ((f : ℕ → ℕ) → nodes.reads_by old f → nodes.reads_by new f) → (refused' ≡ false → refused ≡ false)
+      → Keeps nodes (AllStand nodes kind first stops) IsOther refused old actors refused' new actors
+  keeps-ahead first stops IsOther refused refused' old new actors opening history terms readings sticky = record {
+    goes_on = goes_on-still nodes old new opening history terms readings;
+    stand = λ begun all. record {
+      same_length = all.same_length;
+      each = λ k b a at is. stands-still (first + k) (stop_of stops (first + k)) b a refused refused' old new (same (first + k)) sticky
+          (all.each k b a at is);
+    };
+    others = λ other outside. same other;
+    sticky = sticky;
+  }
+    where
+      same : (number : ℕ) → own_at nodes number new ≡ own_at nodes number old
+      same number = own-still nodes old new opening history number
+
+  -- one actor of the list had its turn
+  module _ (first : ℕ) (stops : List (ℕ × ℕ)) (refused refused' : Bool) (old new : N) (actors : List A) (k : ℕ) (a a' : A)
+      (there : slice_get actors k ≡ Some a) where
+    keeps-there : Keeps nodes (Stands nodes kind (first + k) (stop_of stops (first + k))) (λ other. other ≢ first + k) refused old a refused' new a'
+        → Keeps nodes (AllStand nodes kind first stops) (IsOutside first (length actors)) refused old actors refused' new (slice_set actors k a')
+    keeps-there turn = record {
+      goes_on = turn.goes_on;
+      stand = λ begun all. record {
+        same_length = length-set actors k a' ∙ all.same_length;
+        each = λ j b x at is. ⊎_elim (λ (same : j ≡ k). here begun all j b x at is same) (λ (apart : j ≢ k). elsewhere begun all j b x at is apart)
+            (same_or_apart j k);
+      };
+      others = λ other outside. turn.others other (⊎_elim (λ (below : other < first). (λ same. omega arith))
+          (λ (above : first + length actors ≤ other). (λ same. omega (arith, low))) outside);
+      sticky = turn.sticky;
+    }
       where
-        plus-same : first + j ≡ first + k → j ≡ k
-        plus-same same = omega arith
+        low : k < length actors
+        low = slice_get_within actors k a there
 
--- the actors stand as before, though memory was refused
-pub all_stand-refused : {A : Type 0} (stands_for : A → List Made → Type 0) (step_now : A → Option Step) (is_stopped : A → Bool) (same_origin : A → A → Type 0)
-    (first : ℕ) (stops : List (ℕ × ℕ)) (refused : Bool) (begun now : List A) (s s' : State) (h h' : List Event) → s' ≡ s → h' ≡ h
-    → AllStand stands_for step_now is_stopped same_origin first stops refused begun now s h
-    → AllStand stands_for step_now is_stopped same_origin first stops true begun now s' h'
-all_stand-refused {A} stands_for step_now is_stopped same_origin first stops refused begun now s s' h h' same-opening same-history all =
-    subst (λ x. AllStand stands_for step_now is_stopped same_origin first stops true begun now x h') (sym same-opening)
-    (subst (λ x. AllStand stands_for step_now is_stopped same_origin first stops true begun now s x) (sym same-history)
-    (record { same_length = all.same_length; each = λ k b a at is. each k b a at is }))
-  where
-    each : (k : ℕ) (b a : A) → slice_get begun k ≡ Some b → slice_get now k ≡ Some a
-        → Stands stands_for step_now is_stopped same_origin (first_stop stops (first + k)) true b a (own s h (first + k) (length h))
-    each k b a at is =
-        let before = all.each k b a at is in
-        record { stands = before.stands; origin = before.origin; within = before.within; cause = λ fine. absurd (cc) }
+        here : (begun : List A) → AllStand nodes kind first stops begun refused old actors → (j : ℕ) (b x : A) → slice_get begun j ≡ Some b
+            → slice_get (slice_set actors k a') j ≡ Some x → j ≡ k → Stands nodes kind (first + j) (stop_of stops (first + j)) b refused' new x
+        here begun all j b x at is same =
+            let set : Some x ≡ Some a' = sym is ∙ ap (λ i. slice_get (slice_set actors k a') i) same ∙ get-set_there actors k a' low in
+            let new-is : x ≡ a' = cc in
+            subst (λ i. Stands nodes kind (first + i) (stop_of stops (first + i)) b refused' new x) (sym same)
+            (subst (λ y. Stands nodes kind (first + k) (stop_of stops (first + k)) b refused' new y) (sym new-is)
+            (turn.stand b (all.each k b a (ap (λ i. slice_get begun i) (sym same) ∙ at) there)))
 
--- the same by the actor's number and its stop
-pub all_stand-at : {A : Type 0} (stands_for : A → List Made → Type 0) (step_now : A → Option Step) (is_stopped : A → Bool) (same_origin : A → A → Type 0)
-    (first : ℕ) (stops : List (ℕ × ℕ)) (refused refused' : Bool) (begun now : List A) (s s' : State) (h h' : List Event) (k : ℕ) (a a' : A) (number : ℕ) (stop : Option ℕ)
-    → first + k ≡ number → stop ≡ first_stop stops number → slice_get now k ≡ Some a
-    → ((b : A) → Stands stands_for step_now is_stopped same_origin stop refused b a (own s h number (length h))
-    → Stands stands_for step_now is_stopped same_origin stop refused' b a' (own s' h' number (length h')))
-    → ((other : ℕ) → other ≢ number → own s' h' other (length h') ≡ own s h other (length h))
-    → (refused' ≡ false → refused ≡ false)
-    → AllStand stands_for step_now is_stopped same_origin first stops refused begun now s h
-    → AllStand stands_for step_now is_stopped same_origin first stops refused' begun (slice_set now k a') s' h'
-all_stand-at {A} stands_for step_now is_stopped same_origin first stops refused refused' begun now s s' h h' k a a' number stop same is there turn others sticky all =
-    all_stand-set stands_for step_now is_stopped same_origin first stops refused refused' begun now s s' h h' k a a' there
-    (subst (λ m. (b : A) → Stands stands_for step_now is_stopped same_origin (first_stop stops m) refused b a (own s h m (length h))
-    → Stands stands_for step_now is_stopped same_origin (first_stop stops m) refused' b a' (own s' h' m (length h'))) (sym same)
-    (subst (λ o. (b : A) → Stands stands_for step_now is_stopped same_origin o refused b a (own s h number (length h))
-    → Stands stands_for step_now is_stopped same_origin o refused' b a' (own s' h' number (length h'))) is turn))
-    (λ other apart. others other (λ e. apart (e ∙ sym same))) sticky all
+        elsewhere : (begun : List A) → AllStand nodes kind first stops begun refused old actors → (j : ℕ) (b x : A) → slice_get begun j ≡ Some b
+            → slice_get (slice_set actors k a') j ≡ Some x → j ≢ k → Stands nodes kind (first + j) (stop_of stops (first + j)) b refused' new x
+        elsewhere begun all j b x at is apart =
+            stands-still (first + j) (stop_of stops (first + j)) b x refused refused' old new
+            (turn.others (first + j) (λ same. apart (omega arith))) turn.sticky (all.each j b x at (sym (get-set_elsewhere actors k j a' apart) ∙ is))
+
+    -- the same by its number and its stop
+    pub keeps-at : (number : ℕ) (stop : Option ℕ) → first + k ≡ number → stop ≡ stop_of stops number
+        → Keeps nodes (Stands nodes kind number stop) (λ other. other ≢ number) refused old a refused' new a'
+        → Keeps nodes (AllStand nodes kind first stops) (IsOutside first (length actors)) refused old actors refused' new (slice_set actors k a')
+    keeps-at number stop same is turn = keeps-there
+        (subst (λ m. Keeps nodes (Stands nodes kind m (stop_of stops m)) (λ other. other ≢ m) refused old a refused' new a') (sym same)
+        (subst (λ o. Keeps nodes (Stands nodes kind number o) (λ other. other ≢ number) refused old a refused' new a') is turn))
 
 -- a visit, by the actor's number
-pub visits-at : {A : Type 0} (step_now : A → Option Step) (first : ℕ) (actors : List A) (k : ℕ) (a a' : A) (number : ℕ) (limit : Option ℕ) (old new : List ℕ)
+pub visits-at : {A : Type 0} (step_now : A → Option Step) (first : ℕ) (actors : List A) (k : ℕ) (a a' : A)
+    (number : ℕ) (limit : Option ℕ) (old new : List ℕ)
     → first + k ≡ number → slice_get actors k ≡ Some a
     → Visits number limit old new (is_some (step_now a)) (is_some (step_now a'))
     → Visits number limit old new (asks step_now first actors number) (asks step_now first (slice_set actors k a') number)
@@ -215,7 +229,8 @@ asks-others step_now first actors k a number same other apart = asks-set_elsewhe
 
 -- a number that is not in the list does not ask, and its visit makes no call
 pub visits-unknown : {A : Type 0} (step_now : A → Option Step) (first : ℕ) (actors : List A) (number : ℕ) (limit : Option ℕ) (calls : List ℕ)
-    → (number < first) ⊎ (first + length actors ≤ number) → Visits number limit calls calls (asks step_now first actors number) (asks step_now first actors number)
+    → (number < first) ⊎ (first + length actors ≤ number)
+    → Visits number limit calls calls (asks step_now first actors number) (asks step_now first actors number)
 visits-unknown step_now first actors number limit calls unknown = record {
   calls = 0;
   added = sym (append-nil calls);
@@ -227,7 +242,8 @@ visits-unknown step_now first actors number limit calls unknown = record {
     choice : (b : Bool) → asks step_now first actors number ≡ b → asks step_now first actors number ≡ false
     choice true asking =
         absurd (let at = asks-within step_now first actors number asking in
-        ⊎_elim (λ (low : number < first). (let from = at.0 in omega arith)) (λ (high : first + length actors ≤ number). (let to = at.1 in omega arith)) unknown)
+        ⊎_elim (λ (low : number < first). (let from = at.0 in omega arith))
+        (λ (high : first + length actors ≤ number). (let to = at.1 in omega arith)) unknown)
     choice false still = still
 
     none : asks step_now first actors number ≡ false
@@ -247,7 +263,10 @@ module _ {A : Type 0} (calls_left : A → ℕ) (actors : List A) (k : ℕ) (a a'
   sum-fewer less = let sum = sum-set in omega arith
 
 -- fewer calls are left where anyone called
-pub fewer-next : (made called called' : Bool) (old mid new : ℕ) → (made ≡ true → new < mid) → (made ≡ false → called' ≡ called) → new ≤ mid → mid ≤ old
+pub fewer-next : (made called called' : Bool) (old mid new : ℕ) → (made ≡ true → new < mid) → (made ≡ false → called' ≡ called)
+    → new ≤ mid → mid ≤ old
     → (called ≡ true → mid < old) → called' ≡ true → new < old
-fewer-next true called called' old mid new when_called when_idle less before so_far any = let one = when_called refl in omega arith
-fewer-next false called called' old mid new when_called when_idle less before so_far any = let one = so_far (sym (when_idle refl) ∙ any) in omega arith
+fewer-next true called called' old mid new when_called when_idle less before so_far any =
+    let one = when_called refl in omega arith
+fewer-next false called called' old mid new when_called when_idle less before so_far any =
+    let one = so_far (sym (when_idle refl) ∙ any) in omega arith

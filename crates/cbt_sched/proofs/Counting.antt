@@ -37,7 +37,8 @@ counted-there number j old new added =
     times-one k = omega arith
 
 -- and no one else's
-pub counted-elsewhere : (number j : ℕ) (old new : List ℕ) (other : ℕ) → other ≢ number → new ≡ old ++ replicate j number → calls_of new other ≡ calls_of old other
+pub counted-elsewhere : (number j : ℕ) (old new : List ℕ) (other : ℕ) → other ≢ number → new ≡ old ++ replicate j number
+    → calls_of new other ≡ calls_of old other
 counted-elsewhere number j old new other apart added =
     ap (λ xs. calls_of xs other) added ∙ sum_by-append (λ a. cond (nat_eq a other) 1 0) old (replicate j number)
     ∙ ap (λ k. calls_of old other + k) (sum_by-replicate (λ a. cond (nat_eq a other) 1 0) j number

@@ -1,18 +1,18 @@
 -- What the driver's contract says, from what items and rounds keep.
-use Rattle.std.proofs.Common.{◌≡◌, ℕ, zero, suc, ◌+◌, ◌-◌, ◌<◌, ◌≤◌, ◌⊎◌, inl, inr, ⊎_elim, Bool, true, false, cond, nat_eq, List, [], ◌∷◌, ◌++◌, append_assoc, length, Option, Some, refl, sym, ap, ◌∙◌, subst, arith, slice_get}
+use Rattle.std.proofs.Common.{◌≡◌, ℕ, zero, suc, ◌+◌, ◌-◌, ◌<◌, ◌≤◌, ◌⊎◌, inl, inr, ⊎_elim, Bool, true, false, cond, nat_eq, List, [], ◌∷◌, ◌++◌, append_assoc, length, Some, refl, sym, ap, ◌∙◌, subst, arith, slice_get}
 use Rattle.std.proofs.lemmas.Bool.{cases_lt}
 use Rattle.std.proofs.lemmas.List.{append-nil}
 use Rattle.std.proofs.lemmas.List.Sums.{sum_by-cons}
 use Rattle.std.proofs.lemmas.Option.{slice_get_within}
 use Rattle.cbt_model.specs.History.{own}
 use Rattle.cbt_model.specs.Legal.{calls_below, one_of}
+use Rattle.cbt_model.specs.Stops.{stop_of}
+use Rattle.cbt_model.specs.declared.actors.Actor.{Ghosts as ActorOf}
 use Rattle.cbt_model.specs.declared.events.Event.{Event}
-use Rattle.cbt_model.specs.declared.events.Made.{Made}
+use Rattle.cbt_model.specs.declared.nodes.Node.{Ghosts as NodeOf}
 use Rattle.cbt_model.specs.declared.states.State.{State}
-use Rattle.cbt_model.specs.declared.steps.Step.{Step}
 use Rattle.cbt_model.proofs.Longer.{calls_below-next, length-next, own-length}
-use Rattle.cbt_sched.specs.Driving.{AllStand, Stands}
-use Rattle.cbt_sched.specs.Stopping.{first_stop}
+use Rattle.cbt_sched.specs.Driving.{AllStand, Stands, own_at}
 use Rattle.cbt_sched.specs.Turns.{callers, calls_of}
 use Rattle.cbt_sched.proofs.Counting.{eq-same}
 
@@ -22,35 +22,34 @@ item-at [] k low = absurd (omega arith)
 item-at (x ∷ xs) zero low = (x, refl)
 item-at (x ∷ xs) (suc k) low = item-at xs k (omega arith)
 
-pub counterpart : {A : Type 0} (xs ys : List A) (k : ℕ) (x : A) → length xs ≡ length ys → slice_get xs k ≡ Some x → (y : A) × (slice_get ys k ≡ Some y)
+pub counterpart : {A : Type 0} (xs ys : List A) (k : ℕ) (x : A) → length xs ≡ length ys → slice_get xs k ≡ Some x
+    → (y : A) × (slice_get ys k ≡ Some y)
 counterpart xs ys k x same there = item-at ys k (let low = slice_get_within xs k x there in omega arith)
 
 -- the actors as they are begun
-pub all_stand-begun : {A : Type 0} (stands_for : A → List Made → Type 0) (step_now : A → Option Step) (is_stopped : A → Bool) (same_origin : A → A → Type 0)
-    (first : ℕ) (stops : List (ℕ × ℕ)) (refused : Bool) (actors : List A) (s : State) (h : List Event)
-    → ((a : A) → same_origin a a) → ((k : ℕ) (a : A) → slice_get actors k ≡ Some a → stands_for a [])
-    → ((k : ℕ) → k < length actors → own s h (first + k) (length h) ≡ [])
-    → AllStand stands_for step_now is_stopped same_origin first stops refused actors actors s h
-all_stand-begun {A} stands_for step_now is_stopped same_origin first stops refused actors s h itself fresh apart = record {
-  same_length = refl;
-  each = λ k b a at is. each k b a at is;
-}
+pub all_stand-begun : {N A : Type 0} (nodes : NodeOf N) (kind : ActorOf A) (first : ℕ) (stops : List (ℕ × ℕ))
+    (refused : Bool) (node : N) (actors : List A)
+    → ((a : A) → kind.same_origin a a) → ((k : ℕ) (a : A) → slice_get actors k ≡ Some a → kind.stands_for a [])
+    → ((k : ℕ) → k < length actors → own_at nodes (first + k) node ≡ [])
+    → AllStand nodes kind first stops actors refused node actors
+all_stand-begun {N} {A} nodes kind first stops refused node actors itself fresh apart = record { same_length = refl; each = each }
   where
     each : (k : ℕ) (b a : A) → slice_get actors k ≡ Some b → slice_get actors k ≡ Some a
-        → Stands stands_for step_now is_stopped same_origin (first_stop stops (first + k)) refused b a (own s h (first + k) (length h))
+        → Stands nodes kind (first + k) (stop_of stops (first + k)) b refused node a
     each k b a at is =
         let both : Some b ≡ Some a = sym at ∙ is in
         let same : b ≡ a = cc in
         let none = apart k (slice_get_within actors k a is) in
         record {
-          stands = subst (λ l. stands_for a l) (sym none) (fresh k a is);
-          origin = subst (λ x. same_origin b x) same (itself b);
+          stands = subst (λ l. kind.stands_for a l) (sym none) (fresh k a is);
+          origin = subst (λ x. kind.same_origin b x) same (itself b);
           within = λ most stop. (let empty = ap (λ l. length l) none in omega arith);
-          cause = λ fine running stopped. absurd (let clash : true ≡ false = sym stopped ∙ ap is_stopped (sym same) ∙ running in cc);
+          cause = λ fine running stopped. absurd (let clash : true ≡ false = sym stopped ∙ ap kind.is_stopped (sym same) ∙ running in cc);
         }
 
 -- calls by place and by actor
-calls_below-all : (h more : List Event) (a : ℕ) → calls_below (h ++ more) a (length (h ++ more)) ≡ calls_below h a (length h) + calls_of (callers more) a
+calls_below-all : (h more : List Event) (a : ℕ)
+    → calls_below (h ++ more) a (length (h ++ more)) ≡ calls_below h a (length h) + calls_of (callers more) a
 calls_below-all h [] a = ap (λ x. calls_below x a (length x)) (append-nil h) ∙ plus-none (calls_below h a (length h))
   where
     plus-none : (n : ℕ) → n ≡ n + 0

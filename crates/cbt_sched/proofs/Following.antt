@@ -20,13 +20,16 @@ adds-none : (refused : Bool) (old new : List Mark) → new ≡ old → AddsMarks
 adds-none refused old new same = record { added = []; grown = no-more old new same; among = none; all = λ fine. refl }
 
 -- calls of one actor
-module _ (actor : ℕ) (refused : Bool) (marks marks' : List Mark) (old new : List ℕ) (asking asking' : ℕ → Bool) (others : (b : ℕ) → b ≢ actor → asking' b ≡ asking b)
+module _ (actor : ℕ) (refused : Bool) (marks marks' : List Mark) (old new : List ℕ) (asking asking' : ℕ → Bool)
+    (others : (b : ℕ) → b ≢ actor → asking' b ≡ asking b)
     (unmarked : marks' ≡ marks) (n : ℕ → ℕ) (agreed : Agrees new asking' n) where
-  follows-some : (k : ℕ) → Visits actor (Some k) old new (asking actor) (asking' actor) → Follows (item.Calls actor k ∷ []) refused marks marks' old new asking asking' n
+  follows-some : (k : ℕ) → Visits actor (Some k) old new (asking actor) (asking' actor)
+      → Follows (item.Calls actor k ∷ []) refused marks marks' old new asking asking' n
   follows-some k visit = record {
     agreed = visit-agrees actor (Some k) old new asking asking' visit others n agreed;
     calls = visit.added ∙ ap (λ j. old ++ replicate j actor) (cut visit.calls (left_after n old actor) (visit.within k refl)
-        (visit-within actor (Some k) old new asking asking' visit others n agreed) (visit-made actor (Some k) old new asking asking' visit others n agreed));
+        (visit-within actor (Some k) old new asking asking' visit others n agreed)
+        (visit-made actor (Some k) old new asking asking' visit others n agreed));
     marks = adds-none refused marks marks' unmarked;
   }
     where
@@ -34,7 +37,8 @@ module _ (actor : ℕ) (refused : Bool) (marks marks' : List Mark) (old new : Li
       cut j left within least made =
           ⊎_elim (λ (all : j ≡ left). omega arith) (λ (full : Some k ≡ Some j). (let same : k ≡ j = cc in omega arith)) made
 
-  follows-each : Visits actor None old new (asking actor) (asking' actor) → Follows (item.All actor ∷ []) refused marks marks' old new asking asking' n
+  follows-each : Visits actor None old new (asking actor) (asking' actor)
+      → Follows (item.All actor ∷ []) refused marks marks' old new asking asking' n
   follows-each visit = record {
     agreed = visit-agrees actor None old new asking asking' visit others n agreed;
     calls = visit.added ∙ ap (λ j. old ++ replicate j actor) (⊎_elim (λ (all : visit.calls ≡ left_after n old actor). all)
@@ -65,7 +69,8 @@ pub follows-asked : (it : Item) (asked : ℕ × Option ℕ) → asked_of it ≡ 
     → Follows (it ∷ []) refused marks marks' old new asking asking' n
 follows-asked (item.Calls actor k) asked is refused marks marks' old new asking asking' others unmarked n agreed visit =
     let same = some-same (actor, Some k) asked is in
-    follows-calls asked.0 refused marks marks' old new asking asking' others unmarked n agreed (item.Calls actor k) k (ap (λ p. item.Calls p.0 k) same)
+    follows-calls asked.0 refused marks marks' old new asking asking' others unmarked n agreed (item.Calls actor k) k
+    (ap (λ p. item.Calls p.0 k) same)
     (subst (λ limit. Visits asked.0 limit old new (asking asked.0) (asking' asked.0)) (sym (ap (λ p. p.1) same)) visit)
 follows-asked (item.All actor) asked is refused marks marks' old new asking asking' others unmarked n agreed visit =
     let same = some-same (actor, None) asked is in
@@ -74,14 +79,16 @@ follows-asked (item.All actor) asked is refused marks marks' old new asking aski
 follows-asked (item.Ahead ms) asked is refused marks marks' old new asking asking' others unmarked n agreed visit = absurd (cc)
 
 -- the clock was moved ahead
-module _ (it : Item) (ms : ℕ) (is : it ≡ item.Ahead ms) (marks marks' : List Mark) (old new : List ℕ) (same : new ≡ old) (asking : ℕ → Bool) (n : ℕ → ℕ) (agreed : Agrees new asking n) where
+module _ (it : Item) (ms : ℕ) (is : it ≡ item.Ahead ms) (marks marks' : List Mark)
+    (old new : List ℕ) (same : new ≡ old) (asking : ℕ → Bool) (n : ℕ → ℕ) (agreed : Agrees new asking n) where
   due-one : marks_of n (it ∷ []) old ≡ record { place = length old; ms = ms } ∷ []
   due-one = ap (λ x. marks_of n (x ∷ []) old) is
 
   no-calls : new ≡ after_items n (it ∷ []) old
   no-calls = same ∙ sym (append-nil old) ∙ sym (ap (λ x. after_items n (x ∷ []) old) is)
 
-  follows-marked : (refused : Bool) → AddsMarks refused (record { place = length old; ms = ms } ∷ []) marks marks' → Follows (it ∷ []) refused marks marks' old new asking asking n
+  follows-marked : (refused : Bool) → AddsMarks refused (record { place = length old; ms = ms } ∷ []) marks marks'
+      → Follows (it ∷ []) refused marks marks' old new asking asking n
   follows-marked refused adds = record {
     agreed = subst (λ calls. Agrees calls asking n) same agreed;
     calls = no-calls;
@@ -116,7 +123,8 @@ after_items-append : (n : ℕ → ℕ) (xs ys : List Item) (calls : List ℕ) �
 after_items-append n [] ys calls = refl
 after_items-append n (x ∷ xs) ys calls = after_items-append n xs ys (calls ++ item_calls (left_after n calls) x)
 
-marks_of-append : (n : ℕ → ℕ) (xs ys : List Item) (calls : List ℕ) → marks_of n (xs ++ ys) calls ≡ marks_of n xs calls ++ marks_of n ys (after_items n xs calls)
+marks_of-append : (n : ℕ → ℕ) (xs ys : List Item) (calls : List ℕ)
+    → marks_of n (xs ++ ys) calls ≡ marks_of n xs calls ++ marks_of n ys (after_items n xs calls)
 marks_of-append n [] ys calls = refl
 marks_of-append n (x ∷ xs) ys calls =
     ap (λ ms. item_marks (length calls) x ++ ms) (marks_of-append n xs ys (calls ++ item_calls (left_after n calls) x))
@@ -136,12 +144,14 @@ adds-further refused refused' due due' old mid new sticky first then = record {
   all = λ fine. ap (λ ms. ms ++ then.added) (first.all (sticky fine)) ∙ ap (λ ms. due ++ ms) (then.all fine);
 }
 
-pub follows-further : (xs ys : List Item) (refused refused' : Bool) (m0 m1 m2 : List Mark) (old mid new : List ℕ) (before between after : ℕ → Bool) (n : ℕ → ℕ)
+pub follows-further : (xs ys : List Item) (refused refused' : Bool) (m0 m1 m2 : List Mark)
+    (old mid new : List ℕ) (before between after : ℕ → Bool) (n : ℕ → ℕ)
     → (refused' ≡ false → refused ≡ false) → Follows xs refused m0 m1 old mid before between n → Follows ys refused' m1 m2 mid new between after n
     → Follows (xs ++ ys) refused' m0 m2 old new before after n
 follows-further xs ys refused refused' m0 m1 m2 old mid new before between after n sticky first then = record {
   agreed = first.agreed;
   calls = then.calls ∙ ap (after_items n ys) first.calls ∙ sym (after_items-append n xs ys old);
-  marks = subst (λ due. AddsMarks refused' due m0 m2) (sym (marks_of-append n xs ys old ∙ ap (λ calls. marks_of n xs old ++ marks_of n ys calls) (sym first.calls)))
+  marks = subst (λ due. AddsMarks refused' due m0 m2)
+      (sym (marks_of-append n xs ys old ∙ ap (λ calls. marks_of n xs old ++ marks_of n ys calls) (sym first.calls)))
       (adds-further refused refused' (marks_of n xs old) (marks_of n ys mid) m0 m1 m2 sticky first.marks then.marks);
 }

@@ -31,9 +31,11 @@ leads_on-begun first count next asking each = record {
 
 -- places whose actors have ended need no turn
 module _ (first count : ℕ) (ordered : List ℕ) (at_first : ℕ → Bool) (r : ℕ) (calls : List ℕ) (asking : ℕ → Bool) where
-  skip-one : (k : ℕ) → asking (first + k) ≡ false → InRound first count ordered at_first r k calls asking → InRound first count ordered at_first r (k + 1) calls asking
+  skip-one : (k : ℕ) → asking (first + k) ≡ false → InRound first count ordered at_first r k calls asking
+      → InRound first count ordered at_first r (k + 1) calls asking
   skip-one k still so_far = round-next first count ordered at_first r k calls calls asking asking so_far
-      (record { calls = 0; added = sym (append-nil calls); within = λ m is. omega arith; full = inr still; ended = λ none. (refl, none) }) (λ b apart. refl)
+      (record { calls = 0; added = sym (append-nil calls); within = λ m is. omega arith; full = inr still; ended = λ none. (refl, none) })
+      (λ b apart. refl)
 
   skip-more : (k d : ℕ) → ((j : ℕ) → k ≤ j → j < k + d → asking (first + j) ≡ false) → InRound first count ordered at_first r k calls asking
       → InRound first count ordered at_first r (k + d) calls asking
@@ -57,17 +59,21 @@ module _ (first count : ℕ) (ordered : List ℕ) (at_first : ℕ → Bool) (r :
       up : (k m : ℕ) → k ≤ m → k + (m - k) ≡ m
       up k m low = omega arith
 
-passed-here : (before at : ℕ) (old new : List ℕ) → PassesOver before at old new → (next_of new before ≡ next_of old before) ⊎ (next_of new before ≡ next_of old at)
+passed-here : (before at : ℕ) (old new : List ℕ) → PassesOver before at old new
+    → (next_of new before ≡ next_of old before) ⊎ (next_of new before ≡ next_of old at)
 passed-here before at old new pass =
-    ⊎_elim (λ (room : before < length old). inr (pass.here room)) (λ (short : length old ≤ before). inl (ap (λ x. next_of x before) (pass.short short))) (cases_lt before (length old))
+    ⊎_elim (λ (room : before < length old). inr (pass.here room))
+    (λ (short : length old ≤ before). inl (ap (λ x. next_of x before) (pass.short short))) (cases_lt before (length old))
 
 -- who has ended stays so
-pub stays-ended : (made : Bool) (number : ℕ) (old new : List ℕ) (before after : Bool) → MatchBool made (Called number old new before) (Idle old new after)
+pub stays-ended : (made : Bool) (number : ℕ) (old new : List ℕ) (before after : Bool)
+    → MatchBool made (Called number old new before) (Idle old new after)
     → before ≡ false → after ≡ false
 stays-ended true number old new before after turn still = absurd (let clash : true ≡ false = sym turn.asked ∙ still in cc)
 stays-ended false number old new before after turn still = turn.ended
 
-pub idle-ended : (made : Bool) (number : ℕ) (old new : List ℕ) (before after : Bool) → MatchBool made (Called number old new before) (Idle old new after)
+pub idle-ended : (made : Bool) (number : ℕ) (old new : List ℕ) (before after : Bool)
+    → MatchBool made (Called number old new before) (Idle old new after)
     → made ≡ false → after ≡ false
 idle-ended true number old new before after turn idle = absurd (cc)
 idle-ended false number old new before after turn idle = turn.ended
@@ -90,7 +96,8 @@ module _ (first count : ℕ) (next next' : List ℕ) (asking asking' : ℕ → B
   over-passed : made ≡ false → PassesOver before (p + 1) next next' → LeadsOn first count next' asking'
   over-passed none pass = record {
     further = λ at l. ⊎_elim (λ (same : at ≡ before). subst (λ i. (i < next_of next' i) × (next_of next' i ≤ count + 1)) (sym same) further-here)
-        (λ (apart : at ≢ before). (let is = pass.others at apart in let old = leads.further at l in let one = old.0 in let two = old.1 in (omega arith, omega arith))) (same_or_apart at before);
+        (λ (apart : at ≢ before). (let is = pass.others at apart in let old = leads.further at l in
+        let one = old.0 in let two = old.1 in (omega arith, omega arith))) (same_or_apart at before);
     over = λ at place l from to. ⊎_elim
         (λ (same : at ≡ before). over-here place (omega arith) (let is = ap (λ i. next_of next' i) same in omega arith))
         (λ (apart : at ≢ before). leads'.over at place l from (let is = pass.others at apart in omega arith)) (same_or_apart at before);
@@ -109,7 +116,8 @@ module _ (first count : ℕ) (next next' : List ℕ) (asking asking' : ℕ → B
           (λ (far : next_of next' before ≡ next_of next (p + 1)).
           ⊎_elim (λ (less : place < p). still place (span place from less))
           (λ (more : p ≤ place). ⊎_elim (λ (here : place ≡ p). subst (λ i. asking' (first + i) ≡ false) (sym here) (idle none))
-          (λ (apart : place ≢ p). leads'.over (p + 1) place within (omega arith) (omega arith)) (same_or_apart place p)) (cases_lt place p)) (passed-here before (p + 1) next next' pass)
+          (λ (apart : place ≢ p). leads'.over (p + 1) place within (omega arith) (omega arith)) (same_or_apart place p)) (cases_lt place p))
+          (passed-here before (p + 1) next next' pass)
 
   pub leads_on-next : LeadsOn first count next' asking'
   leads_on-next = choice made refl
@@ -147,7 +155,8 @@ pub ended-skip : (first k m : ℕ) (asking : ℕ → Bool) → ((number : ℕ) �
     → ((j : ℕ) → k ≤ j → j < m → asking (first + j) ≡ false) → (number : ℕ) → number < first + m → asking number ≡ false
 ended-skip first k m asking ended between number low =
     ⊎_elim (λ (near : number < first + k). ended number near)
-    (λ (far : first + k ≤ number). subst (λ i. asking i ≡ false) (from-first far) (between (number - first) (omega arith) (omega arith))) (cases_lt number (first + k))
+    (λ (far : first + k ≤ number). subst (λ i. asking i ≡ false) (from-first far) (between (number - first) (omega arith) (omega arith)))
+    (cases_lt number (first + k))
   where
     from-first : first + k ≤ number → first + (number - first) ≡ number
     from-first far = omega arith

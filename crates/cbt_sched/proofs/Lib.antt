@@ -4,7 +4,7 @@ pub mod Calling
 pub mod Counting
 pub mod Ending
 pub mod Following
+pub mod Keeping
 pub mod Leading
-pub mod Nodes
 pub mod Rounding
 pub mod Visiting

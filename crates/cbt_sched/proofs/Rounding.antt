@@ -55,7 +55,8 @@ module _ (first count : ℕ) (ordered : List ℕ) (at_first : ℕ → Bool) (r k
   turn-is n agreed zero is = ap (λ b. cond b ((first + k) ∷ []) []) (sym (lt-false r (left_after n ordered (first + k)) none_left))
     where
       ended : asking' (first + k) ≡ false
-      ended = ⊎_elim (λ (full : Some 1 ≡ Some visit.calls). absurd (let same : 1 ≡ visit.calls = cc in omega arith)) (λ (none : asking' (first + k) ≡ false). none) visit.full
+      ended = ⊎_elim (λ (full : Some 1 ≡ Some visit.calls). absurd (let same : 1 ≡ visit.calls = cc in omega arith))
+          (λ (none : asking' (first + k) ≡ false). none) visit.full
 
       none_left : left_after n ordered (first + k) ≤ r
       none_left = let exact = agreed.exact (first + k) ended in let most = here.at_most in let grown = there in omega arith
@@ -63,7 +64,8 @@ module _ (first count : ℕ) (ordered : List ℕ) (at_first : ℕ → Bool) (r k
     where
       some_left : r < left_after n ordered (first + k)
       some_left =
-          let least = agreed.least (first + k) in let exactly = here.exactly (asked (asking (first + k)) refl (omega arith)) in let grown = there in omega arith
+          let least = agreed.least (first + k) in let exactly = here.exactly (asked (asking (first + k)) refl (omega arith)) in
+          let grown = there in omega arith
   turn-is n agreed (suc (suc j)) is = absurd (let most = one_at_most in omega arith)
 
   moved : (q a : ℕ) → a ≢ first + k → IsAtRound q ordered old asking a → IsAtRound q ordered new asking' a
@@ -81,19 +83,23 @@ module _ (first count : ℕ) (ordered : List ℕ) (at_first : ℕ → Bool) (r k
         (λ (none : asking' (first + k) ≡ false). absurd (let clash : true ≡ false = sym asks ∙ none in cc)) visit.full;
   }
 
-  filter-next : (p : ℕ → Bool) → filter p (range_with_len first (k + 1)) ≡ filter p (range_with_len first k) ++ cond (p (first + k)) ((first + k) ∷ []) []
-  filter-next p = ap (λ m. filter p (range_with_len first m)) (add-one k) ∙ ap (filter p) (range-next first k) ∙ filter-append p (range_with_len first k) ((first + k) ∷ [])
+  filter-next : (p : ℕ → Bool)
+      → filter p (range_with_len first (k + 1)) ≡ filter p (range_with_len first k) ++ cond (p (first + k)) ((first + k) ∷ []) []
+  filter-next p = ap (λ m. filter p (range_with_len first m)) (add-one k) ∙ ap (filter p) (range-next first k)
+      ∙ filter-append p (range_with_len first k) ((first + k) ∷ [])
 
   pub round-next : InRound first count ordered at_first r (k + 1) new asking'
   round-next = record {
     agreed = λ n agreed. so_far.agreed n (visit-agrees (first + k) (Some 1) old new asking asking' visit others n agreed);
-    so_far = λ n agreed. visit.added
-        ∙ ap (λ xs. xs ++ replicate visit.calls (first + k)) (so_far.so_far n (visit-agrees (first + k) (Some 1) old new asking asking' visit others n agreed))
-        ∙ append_assoc ordered (rounds (left_after n ordered) (range_with_len first count) r ++ filter (λ a. nat_lt r (left_after n ordered a)) (range_with_len first k)) (replicate visit.calls (first + k))
-        ∙ ap (λ xs. ordered ++ xs) (append_assoc (rounds (left_after n ordered) (range_with_len first count) r) (filter (λ a. nat_lt r (left_after n ordered a)) (range_with_len first k)) (replicate visit.calls (first + k))
-        ∙ ap (λ xs. rounds (left_after n ordered) (range_with_len first count) r ++ xs)
-        (ap (λ xs. filter (λ a. nat_lt r (left_after n ordered a)) (range_with_len first k) ++ xs) (turn-is n agreed visit.calls refl)
-        ∙ sym (filter-next (λ a. nat_lt r (left_after n ordered a)))));
+    so_far = λ n agreed. (
+        let left = left_after n ordered in
+        let whole = rounds left (range_with_len first count) r in
+        let turns = filter (λ a. nat_lt r (left a)) (range_with_len first k) in
+        let one = replicate visit.calls (first + k) in
+        visit.added ∙ ap (λ xs. xs ++ one) (so_far.so_far n (visit-agrees (first + k) (Some 1) old new asking asking' visit others n agreed))
+        ∙ append_assoc ordered (whole ++ turns) one
+        ∙ ap (λ xs. ordered ++ xs) (append_assoc whole turns one
+        ∙ ap (λ xs. whole ++ xs) (ap (λ xs. turns ++ xs) (turn-is n agreed visit.calls refl) ∙ sym (filter-next (λ a. nat_lt r (left a))))));
     before = λ a low. ⊎_elim (λ (same : a ≡ first + k). subst (λ x. IsAtRound (suc r) ordered new asking' x) (sym same) here-next)
         (λ (apart : a ≢ first + k). moved (suc r) a apart (so_far.before a (omega arith))) (same_or_apart a (first + k));
     behind = λ a high. moved r a (λ same. omega arith) (so_far.behind a (omega arith));
@@ -105,8 +111,10 @@ pub round-over : (first count : ℕ) (ordered : List ℕ) (at_first : ℕ → Bo
     → InRound first count ordered at_first (suc r) 0 calls asking
 round-over first count ordered at_first r calls asking whole known = record {
   agreed = whole.agreed;
-  so_far = λ n agreed. whole.so_far n agreed
-      ∙ ap (λ xs. ordered ++ xs) (sym (append-nil (rounds (left_after n ordered) (range_with_len first count) r ++ round (left_after n ordered) (range_with_len first count) r)));
+  so_far = λ n agreed. (
+      let left = left_after n ordered in
+      let actors = range_with_len first count in
+      whole.so_far n agreed ∙ ap (λ xs. ordered ++ xs) (sym (append-nil (rounds left actors r ++ round left actors r))));
   before = λ a low. record {
     at_most = (let at = whole.before a (omega arith) in let most = at.at_most in omega arith);
     exactly = λ asks. absurd (let at = known a asks in omega arith);
@@ -139,7 +147,8 @@ module _ (left : ℕ → ℕ) (actors : List ℕ) where
       up : (m n : ℕ) → m ≤ n → n ≡ m + (n - m)
       up m n low = omega arith
 
-  rounds-same : (m n : ℕ) → ((q : ℕ) → m ≤ q → round left actors q ≡ []) → ((q : ℕ) → n ≤ q → round left actors q ≡ []) → rounds left actors m ≡ rounds left actors n
+  rounds-same : (m n : ℕ) → ((q : ℕ) → m ≤ q → round left actors q ≡ []) → ((q : ℕ) → n ≤ q → round left actors q ≡ [])
+      → rounds left actors m ≡ rounds left actors n
   rounds-same m n none none' =
       ⊎_elim (λ (low : m < n). sym (rounds-up m n (omega arith) none)) (λ (high : n ≤ m). rounds-up n m high none') (cases_lt m n)
 
@@ -147,7 +156,8 @@ module _ (left : ℕ → ℕ) (actors : List ℕ) where
 round-ended : (left : ℕ → ℕ) (first count r : ℕ) → ((a : ℕ) → first ≤ a → left a ≤ r) → round left (range_with_len first count) r ≡ []
 round-ended left first zero r none = refl
 round-ended left first (suc count) r none =
-    ap (λ b. cond b (first ∷ round left (range_with_len (first + 1) count) r) (round left (range_with_len (first + 1) count) r)) (lt-false r (left first) (none first (omega arith)))
+    ap (λ b. cond b (first ∷ round left (range_with_len (first + 1) count) r) (round left (range_with_len (first + 1) count) r))
+    (lt-false r (left first) (none first (omega arith)))
     ∙ round-ended left (first + 1) count r (λ a high. none a (omega arith))
 
 round-past_sum : (left : ℕ → ℕ) (actors : List ℕ) (r : ℕ) → sum_by left actors ≤ r → round left actors r ≡ []
@@ -165,10 +175,11 @@ module _ (first count : ℕ) (ordered : List ℕ) (at_first : ℕ → Bool) (r :
   none_left : (q : ℕ) → r ≤ q → (a : ℕ) → first ≤ a → left_after (calls_of calls) ordered a ≤ q
   none_left q low a high = let at = whole.behind a (omega arith) in let most = at.at_most in omega arith
 
-  pub rounds-whole : calls ≡ ordered ++ rounds (left_after (calls_of calls) ordered) (range_with_len first count) (sum_by (left_after (calls_of calls) ordered) (range_with_len first count))
+  pub rounds-whole : let left = left_after (calls_of calls) ordered in let actors = range_with_len first count in
+      calls ≡ ordered ++ rounds left actors (sum_by left actors)
   rounds-whole =
+      let left = left_after (calls_of calls) ordered in
+      let actors = range_with_len first count in
       whole.so_far (calls_of calls) agrees-itself
-      ∙ ap (λ xs. ordered ++ xs) (append-nil (rounds (left_after (calls_of calls) ordered) (range_with_len first count) r)
-      ∙ rounds-same (left_after (calls_of calls) ordered) (range_with_len first count) r (sum_by (left_after (calls_of calls) ordered) (range_with_len first count))
-      (λ q low. round-ended (left_after (calls_of calls) ordered) first count q (none_left q low))
-      (λ q low. round-past_sum (left_after (calls_of calls) ordered) (range_with_len first count) q low))
+      ∙ ap (λ xs. ordered ++ xs) (append-nil (rounds left actors r) ∙ rounds-same left actors r (sum_by left actors)
+      (λ q low. round-ended left first count q (none_left q low)) (λ q low. round-past_sum left actors q low))

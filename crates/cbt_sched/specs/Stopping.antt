@@ -1,12 +1,7 @@
--- Stops: how many calls an actor may make.
-use Rattle.std.specs.Prelude.{◌≡◌, ℕ, ◌==◌, List, length, find, Option, Some, IsSome}
-use Rattle.std.specs.Option.{option_map}
+-- How an actor comes to its stop.
+use Rattle.std.specs.Prelude.{◌≡◌, ℕ, List, length, Option, Some, IsSome}
 use Rattle.cbt_model.specs.declared.events.Made.{Made}
 use Rattle.cbt_model.specs.declared.steps.Step.{Step}
-
--- an actor's stop; of two the first counts
-abbrev pub first_stop : List (ℕ × ℕ) → ℕ → Option ℕ
-first_stop stops actor = option_map (λ s. s.1) (find (λ s. s.0 == actor) stops)
 
 -- an actor with this own list came to its stop, and had a next step then, made with what it was begun with
 pub record StopReached {A : Type 0} (stands_for : A → List Made → Type 0) (step_now : A → Option Step) (same_origin : A → A → Type 0)

@@ -1,10 +1,11 @@
 //! The driver.
 
-ghost use Rattle.std.specs.Prelude.{◌≡◌, ℕ, ◌+◌, ◌^◌, ◌<◌, ◌≤◌, true, false, Some, None, [], length, slice_get};
+ghost use Rattle.std.specs.Prelude.{◌≡◌, ℕ, ◌+◌, ◌^◌, ◌<◌, ◌≤◌, ◌⊎◌, true, false, Some, None, [], length, slice_get};
 ghost use Rattle.std.specs.List.{range_with_len};
 ghost use Rattle.cbt_model.specs.History.{own};
+ghost use Rattle.cbt_model.specs.Stops.{stop_of};
 ghost use Rattle.cbt_model.specs.declared.events.Event.{Event};
-ghost use Rattle.cbt_sched.specs.Stopping.{StopReached, first_stop};
+ghost use Rattle.cbt_sched.specs.Stopping.{StopReached};
 ghost use Rattle.cbt_sched.specs.Turns.{AddsMarks, callers, calls_of, marks_of, turns};
 
 use crate::items::follow_items;
@@ -46,11 +47,11 @@ pub fn drive_in_order<N: Node, A: Actor>(
     // Each has ended or is stopped. It made no more calls than its stop names, and where no memory was
     // refused it was stopped only there, with a next step.
     ensures ended { (k : ℕ) (a : A) → slice_get actors.new k ≡ Some a → A.step_now a ≡ None }
-    ensures within { (k most : ℕ) → k < length actors.old → first_stop stops.now (first + k) ≡ Some most
+    ensures within { (k most : ℕ) → k < length actors.old → stop_of stops.now (first + k) ≡ Some most
         → calls_of (callers (N.history node.new)) (first + k) ≤ most }
     ensures stopped { (k : ℕ) (begun a : A) → slice_get actors.old k ≡ Some begun → slice_get actors.new k ≡ Some a
         → result ≡ false → A.is_stopped begun ≡ false → A.is_stopped a ≡ true
-        → StopReached A.stands_for A.step_now A.same_origin (first_stop stops.now (first + k)) begun
+        → StopReached A.stands_for A.step_now A.same_origin (stop_of stops.now (first + k)) begun
         (own (N.opening node.new) (N.history node.new) (first + k) (length (N.history node.new))) }
 
     // The history goes on with calls of these actors alone, in the order of turns for the numbers of
@@ -61,6 +62,11 @@ pub fn drive_in_order<N: Node, A: Actor>(
         → (first ≤ e.actor) × (e.actor < first + length actors.old) }
     ensures turns { callers (N.history node.new)
         ≡ turns (calls_of (callers (N.history node.new))) (range_with_len first (length actors.old)) order.now (callers (N.history node.old)) }
+
+    // The own list of an actor that is not in the list stays as it is.
+    ensures others { (other : ℕ) → (other < first) ⊎ (first + length actors.old ≤ other)
+        → own (N.opening node.new) (N.history node.new) other (length (N.history node.new))
+        ≡ own (N.opening node.old) (N.history node.old) other (length (N.history node.old)) }
 
     // The clock was moved ahead where the order says.
     ensures marks { AddsMarks result

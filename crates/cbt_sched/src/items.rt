@@ -1,11 +1,10 @@
 //! The items of an order.
 
 ghost use Rattle.std.specs.Prelude.{◌≡◌, ◌≢◌, ℕ, ◌+◌, ◌^◌, ◌<◌, ◌≤◌, ◌⊎◌, Bool, false, List as Seq, [], ◌∷◌, length, None, IfSome};
-ghost use Rattle.cbt_model.specs.History.{own};
-ghost use Rattle.cbt_sched.specs.Driving.{AllStand, Agrees, Follows, GoesOn, asks};
+ghost use Rattle.cbt_sched.specs.Driving.{AllStand, Agrees, Follows, IsOutside, Keeps, asks};
 ghost use Rattle.cbt_sched.specs.Turns.{callers};
 
-use crate::stops::first_stop;
+use crate::stops::stop_of;
 use crate::visits::make_calls;
 use cbt_base::List;
 use cbt_model::{Actor, Item, Node};
@@ -32,19 +31,12 @@ fn follow_item<N: Node, A: Actor>(
     refused: &mut bool,
 )
     requires { first + length actors.old < 2 ^ 32 }
-    ensures node { GoesOn N.opening N.history N.terms N.reads_by node.old node.new }
+    ensures keeps { Keeps N.Node (AllStand N.Node A.Actor first stops.now) (IsOutside first (length actors.old))
+        refused.old node.old actors.old refused.new node.new actors.new }
     ensures length { length actors.new ≡ length actors.old }
-    ensures stand { (begun : Seq A) → AllStand A.stands_for A.step_now A.is_stopped A.same_origin first stops.now
-        refused.old begun actors.old (N.opening node.old) (N.history node.old)
-        → AllStand A.stands_for A.step_now A.is_stopped A.same_origin first stops.now
-        refused.new begun actors.new (N.opening node.new) (N.history node.new) }
-    ensures others { (other : ℕ) → (other < first) ⊎ (first + length actors.old ≤ other)
-        → own (N.opening node.new) (N.history node.new) other (length (N.history node.new))
-        ≡ own (N.opening node.old) (N.history node.old) other (length (N.history node.old)) }
     ensures follows { (n : ℕ → ℕ) → Agrees (callers (N.history node.new)) (asks A.step_now first actors.new) n
         → Follows (item ∷ []) refused.new (N.marks node.old) (N.marks node.new)
         (callers (N.history node.old)) (callers (N.history node.new)) (asks A.step_now first actors.old) (asks A.step_now first actors.new) n }
-    ensures refused { refused.new ≡ false → refused.old ≡ false }
 {
     let (number, limit) = match item {
         Item::Calls { actor, k } => (actor, Some(k)),
@@ -57,7 +49,7 @@ fn follow_item<N: Node, A: Actor>(
         }
     };
     if let Some(place) = place_of(first, actors.len(), number) {
-        let stop = first_stop(stops, number);
+        let stop = stop_of(stops, number);
         let actor = actors.at_mut(place);
         make_calls(alloc, node, number, stop, limit, actor, refused);
     }
@@ -74,19 +66,12 @@ pub fn follow_items<N: Node, A: Actor>(
     refused: &mut bool,
 )
     requires { first + length actors.old < 2 ^ 32 }
-    ensures node { GoesOn N.opening N.history N.terms N.reads_by node.old node.new }
+    ensures keeps { Keeps N.Node (AllStand N.Node A.Actor first stops.now) (IsOutside first (length actors.old))
+        refused.old node.old actors.old refused.new node.new actors.new }
     ensures length { length actors.new ≡ length actors.old }
-    ensures stand { (begun : Seq A) → AllStand A.stands_for A.step_now A.is_stopped A.same_origin first stops.now
-        refused.old begun actors.old (N.opening node.old) (N.history node.old)
-        → AllStand A.stands_for A.step_now A.is_stopped A.same_origin first stops.now
-        refused.new begun actors.new (N.opening node.new) (N.history node.new) }
-    ensures others { (other : ℕ) → (other < first) ⊎ (first + length actors.old ≤ other)
-        → own (N.opening node.new) (N.history node.new) other (length (N.history node.new))
-        ≡ own (N.opening node.old) (N.history node.old) other (length (N.history node.old)) }
     ensures follows { (n : ℕ → ℕ) → Agrees (callers (N.history node.new)) (asks A.step_now first actors.new) n
         → Follows order.now refused.new (N.marks node.old) (N.marks node.new)
         (callers (N.history node.old)) (callers (N.history node.new)) (asks A.step_now first actors.old) (asks A.step_now first actors.new) n }
-    ensures refused { refused.new ≡ false → refused.old ≡ false }
 {
     for item in order.as_slice() {
         follow_item(alloc, node, first, actors, stops, *item, refused);

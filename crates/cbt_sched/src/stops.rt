@@ -1,13 +1,13 @@
 //! How many calls an actor may make.
 
 ghost use Rattle.std.specs.Prelude.{◌≡◌, ℕ, ◌<◌, ◌≤◌, true, false, Some, IsSomeAnd};
-ghost use Rattle.cbt_sched.specs.Stopping.{first_stop};
+ghost use Rattle.cbt_model.specs.Stops.{stop_of};
 
 use cbt_base::List;
 
 /// An actor's stop; of two the first counts.
-pub fn first_stop(stops: &List<(u32, u64)>, actor: u32) -> Option<u64>
-    ensures { result ≡ first_stop stops.now actor }
+pub fn stop_of(stops: &List<(u32, u64)>, actor: u32) -> Option<u64>
+    ensures { result ≡ stop_of stops.now actor }
 {
     stops.iter().find(|stop| stop.0 == actor).map(|stop| stop.1)
 }

@@ -1,8 +1,7 @@
 //! Calls of one actor.
 
-ghost use Rattle.std.specs.Prelude.{◌≡◌, ◌≢◌, ℕ, ◌<◌, ◌≤◌, true, false, length, is_some, MatchBool};
-ghost use Rattle.cbt_model.specs.History.{own};
-ghost use Rattle.cbt_sched.specs.Driving.{Called, GoesOn, Idle, Stands, Visits};
+ghost use Rattle.std.specs.Prelude.{◌≡◌, ◌≢◌, ◌<◌, ◌≤◌, true, is_some, MatchBool};
+ghost use Rattle.cbt_sched.specs.Driving.{Called, Idle, Keeps, Stands, Visits};
 ghost use Rattle.cbt_sched.specs.Turns.{callers};
 
 use crate::stops::is_reached;
@@ -23,21 +22,14 @@ pub fn make_call<N: Node, A: Actor>(
     actor: &mut A,
     refused: &mut bool,
 ) -> bool
-    ensures node { GoesOn N.opening N.history N.terms N.reads_by node.old node.new }
+    ensures keeps { Keeps N.Node (Stands N.Node A.Actor number stop) (λ other. other ≢ number)
+        refused.old node.old actor.old refused.new node.new actor.new }
     ensures marks { N.marks node.new ≡ N.marks node.old }
-    ensures stands { (begun : A) → Stands A.stands_for A.step_now A.is_stopped A.same_origin stop
-        refused.old begun actor.old (own (N.opening node.old) (N.history node.old) number (length (N.history node.old)))
-        → Stands A.stands_for A.step_now A.is_stopped A.same_origin stop
-        refused.new begun actor.new (own (N.opening node.new) (N.history node.new) number (length (N.history node.new))) }
-    ensures others { (other : ℕ) → other ≢ number
-        → own (N.opening node.new) (N.history node.new) other (length (N.history node.new))
-        ≡ own (N.opening node.old) (N.history node.old) other (length (N.history node.old)) }
     ensures turn { MatchBool result
         (Called number (callers (N.history node.old)) (callers (N.history node.new)) (is_some (A.step_now actor.old)))
         (Idle (callers (N.history node.old)) (callers (N.history node.new)) (is_some (A.step_now actor.new))) }
     ensures fewer { result ≡ true → A.calls_left actor.new < A.calls_left actor.old }
     ensures no_more { A.calls_left actor.new ≤ A.calls_left actor.old }
-    ensures refused { refused.new ≡ false → refused.old ≡ false }
 {
     let step = match actor.next(alloc) {
         Ok(Some(step)) => step,
@@ -78,18 +70,11 @@ pub fn make_calls<N: Node, A: Actor>(
     actor: &mut A,
     refused: &mut bool,
 )
-    ensures node { GoesOn N.opening N.history N.terms N.reads_by node.old node.new }
+    ensures keeps { Keeps N.Node (Stands N.Node A.Actor number stop) (λ other. other ≢ number)
+        refused.old node.old actor.old refused.new node.new actor.new }
     ensures marks { N.marks node.new ≡ N.marks node.old }
-    ensures stands { (begun : A) → Stands A.stands_for A.step_now A.is_stopped A.same_origin stop
-        refused.old begun actor.old (own (N.opening node.old) (N.history node.old) number (length (N.history node.old)))
-        → Stands A.stands_for A.step_now A.is_stopped A.same_origin stop
-        refused.new begun actor.new (own (N.opening node.new) (N.history node.new) number (length (N.history node.new))) }
-    ensures others { (other : ℕ) → other ≢ number
-        → own (N.opening node.new) (N.history node.new) other (length (N.history node.new))
-        ≡ own (N.opening node.old) (N.history node.old) other (length (N.history node.old)) }
     ensures calls { Visits number limit (callers (N.history node.old)) (callers (N.history node.new))
         (is_some (A.step_now actor.old)) (is_some (A.step_now actor.new)) }
-    ensures refused { refused.new ≡ false → refused.old ≡ false }
 {
     let mut left = limit;
     while left != Some(0) && make_call(alloc, node, number, stop, actor, refused) {

@@ -30,3 +30,4 @@ pub mod RulesOfClients
 pub mod RulesOfCourse
 pub mod RulesOfDrafts
 pub mod RulesOfScripts
+pub mod Fresh

@@ -1,6 +1,9 @@
 //! What holds of scripts and their texts. Each function does nothing: what it ensures is the law.
 
 ghost use Rattle.std.specs.Prelude.{◌≡◌, ℕ, List, Ok, IsUtf8};
+ghost use Rattle.cbt_json.specs.declared.tree.Tree.{Tree};
+ghost use Rattle.cbt_model.specs.Fresh.{IsFresh};
+ghost use Rattle.cbt_script.specs.Opening.{opening_of};
 ghost use Rattle.cbt_script.specs.Printed.{script_text};
 ghost use Rattle.cbt_script.specs.Reading.{script_of};
 ghost use Rattle.cbt_script.specs.Rules.{IsScript};
@@ -24,4 +27,10 @@ pub fn text_reads_back()
 pub fn written_text_reads_back(script: &crate::Script, text: &str)
     requires { text.now ≡ script_text script.now }
     ensures { IsScript script.now → script_of text.now ≡ Ok script.now }
+{}
+
+/// A law: nobody has written in the state that the node of a script begins with: no entry and no row
+/// stands there, no document is staged, and no stamp is above the clock.
+pub fn openings_are_fresh()
+    ensures { (docs : List (List ℕ × Tree × Tree)) → IsFresh (opening_of docs) }
 {}

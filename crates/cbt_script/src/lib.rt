@@ -17,5 +17,5 @@ mod script;
 mod settings;
 
 pub use cause::{Bad, Cause, ScriptFault};
-pub use laws::{scripts_keep_rules, text_reads_back, written_text_reads_back};
+pub use laws::{openings_are_fresh, scripts_keep_rules, text_reads_back, written_text_reads_back};
 pub use script::Script;

@@ -14,8 +14,6 @@ mod references;
 mod scalars;
 mod strings;
 mod terms;
-#[cfg(test)]
-mod tests;
 
 pub use fault::SyntaxFault;
 pub use laws::{

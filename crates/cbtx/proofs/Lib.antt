@@ -1,5 +1,6 @@
 pub mod Runnable
 pub mod Begun
+pub mod Commits
 pub mod Runs
 pub mod Paths
 pub mod Told

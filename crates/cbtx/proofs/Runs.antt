@@ -33,6 +33,7 @@ use Rattle.cbtx.specs.Path.{Task, attempt_of, opened, path, IsPath}
 use Rattle.cbtx.specs.Replacing.{task_of, bare_task, Does}
 use Rattle.cbtx.specs.declared.replacement.Replacement.{Replacement}
 use Rattle.cbtx.proofs.Begun.{opening-is}
+use Rattle.cbtx.proofs.Commits.{at-most-once}
 use Rattle.cbtx.proofs.Runnable.{Facts}
 use Rattle.cbtx.proofs.Six.{shown, view-opened, shows, never-both, commits-once, numbered, in-turn}
 
@@ -107,6 +108,7 @@ module _ (script : Script) (it : Replaced) (known : Facts script it) where
       log = record { clients = refl; cleaners = refl };
       never_both = never-both one 1 1 on.next on.r0 on.r1 on.r2 on.r3 on.r4 on.r5;
       commits_once = commits-once one 1 1 on.next on.r0 on.r1 on.r2 on.r3 on.r4 on.r5;
+      at_most_once = at-most-once one 1 1 on.next on.r0 on.r1 on.r2 on.r3 on.r4 on.r5 refl on.stamp;
       documents = record {
         each = shows one 1 1 on.next on.r0 on.r1 on.r2 on.r3 on.r4 on.r5 on.stamp
             (λ commits d. table_after (write_set (plans_of script) (committed_log ∷ [])) (opened one 1 1) commits d) (table-before it new known.plan worth)

@@ -72,7 +72,7 @@ with-none : (s : State) (e : Event) (cs : List ℕ) → commits e.step ≡ None 
 with-none s e cs quiet = ap (λ o. option_to_list (if takes_effect s e then o else None) ++ cs) quiet ∙ ap (λ o. option_to_list o ++ cs) (never (takes_effect s e))
 
 module _ (t : Task) (last cas next r0 r1 r2 r3 r4 r5 : ℕ) where
-  abbrev six : List Event
+  abbrev pub six : List Event
   six = path t cas next r0 r1 r2 r3 r4 r5
 
   abbrev s0 : State
@@ -97,7 +97,7 @@ module _ (t : Task) (last cas next r0 r1 r2 r3 r4 r5 : ℕ) where
   }
 
   module _ (stamp : next ≡ clock_mutated (so_far 2).last r2) where
-    at-3 : IsAt (λ l. staged t l next start) (so_far 3)
+    pub at-3 : IsAt (λ l. staged t l next start) (so_far 3)
     at-3 = record {
       last = clock_mutated at-2.last r2;
       is = ap (λ s. happens s (plain_event t.actor (stage_step t cas) r2)) at-2.is ∙ state-stage t at-2.last cas start r2

@@ -7,7 +7,7 @@ use Rattle.cbt_model.specs.View.{view}
 use Rattle.cbt_model.specs.declared.events.Kept.{Kept}
 use Rattle.cbt_script.specs.Opening.{opening_of}
 use Rattle.cbt_script.specs.declared.script.Script.{Script}
-use Rattle.cbt_core.specs.Laws.{NeverBoth, CommitsOnce}
+use Rattle.cbt_core.specs.Laws.{NeverBoth, CommitsOnce, AtMostOnce}
 use Rattle.cbtx.specs.Committed.{table}
 use Rattle.cbtx.specs.Logs.{committed_log}
 use Rattle.cbtx.specs.declared.still.Ran.{Ran}
@@ -50,6 +50,7 @@ pub record IsRunOf (script : Script) (book : Book) : Type 0 where
   pub log : HasCommitted book
   pub never_both : NeverBoth book.kept.opening book.kept.history
   pub commits_once : CommitsOnce book.kept.opening book.kept.history
+  pub at_most_once : AtMostOnce book
   pub documents : ShowsTable script book
 
 -- it is so of the script and the book of a run, where they are there

@@ -3,7 +3,7 @@
 ghost use Rattle.std.specs.Prelude.{◌≡◌, ◌<◌, ◌⊎◌, false, true, None, is_some, IfOk};
 ghost use Rattle.std.specs.Io.KnownBytes.{Appends, Keeps};
 ghost use Rattle.cbt_streams.specs.Causes.{Rose};
-ghost use Rattle.cbt_core.specs.Laws.{NeverBoth, CommitsOnce};
+ghost use Rattle.cbt_core.specs.Laws.{NeverBoth, CommitsOnce, AtMostOnce};
 ghost use Rattle.cbt_report.specs.Report.{report_text};
 ghost use Rattle.cbt_script.specs.Opening.{opening_of};
 ghost use Rattle.cbtx.specs.Headline.{IsInTurn, IsLegalFor, IsRunOf, HasCommitted, ShowsTable, WhereRan};
@@ -105,10 +105,11 @@ pub fn still<S: Source, K: Sink, C: Clock>(
     ensures in_turn { WhereRan result (λ script book. IsInTurn book.kept) }
     ensures log { WhereRan result (λ script book. HasCommitted book) }
 
-    // In this history no attempt both commits and is rolled back, none commits twice, and at every moment each document resolves to what
-    // the committed write sets make of it.
+    // In this history no attempt both commits and is rolled back, and none commits twice. At most one attempt of a transaction commits,
+    // and the log tells whether one does, and where. At every moment each document resolves to what the committed write sets make of it.
     ensures never_both { WhereRan result (λ script book. NeverBoth book.kept.opening book.kept.history) }
     ensures commits_once { WhereRan result (λ script book. CommitsOnce book.kept.opening book.kept.history) }
+    ensures at_most_once { WhereRan result (λ script book. AtMostOnce book) }
     ensures documents { WhereRan result (λ script book. ShowsTable script book) }
 {
     if is_sim(words) {

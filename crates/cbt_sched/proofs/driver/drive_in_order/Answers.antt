@@ -1,24 +1,26 @@
-use Rattle.std.proofs.Common.{◌≤◌, ◌<◌, ◌+◌, ◌⊎◌, false, length, subst, sym, ap, ◌∙◌, slice_get, arith}
+use Rattle.std.proofs.Common.{◌+◌, false, length, sym, ap, ◌∙◌, slice_get, arith}
 use Rattle.cbt_model.proofs.Longer.{get-longer}
-use Rattle.cbt_sched.specs.Driving.{AllStand, GoesOn}
+use Rattle.cbt_sched.specs.Driving.{AllStand, IsOutside, Keeps}
 use Rattle.cbt_sched.proofs.Actors.{no-step}
 use Rattle.cbt_sched.proofs.Ending.{all_stand-begun, counterpart, item-at, known-callers, length-own}
-use Rattle.cbt_sched.proofs.Nodes.{goes_on-further}
+use Rattle.cbt_sched.proofs.Keeping.{keeps-count, keeps-further}
 use Rattle.cbt_sched.proofs.driver.drive_in_order.Given
 use Rattle.cbt_sched.proofs.driver.drive_in_order.Goals as goal
 
+-- what items and turns keep
+keeps : (g : Given.Over) (c : goal.After-take_turns g)
+    → Keeps g.N.Node (AllStand g.N.Node g.A.Actor c.args.first c.args.stops.now) (IsOutside c.args.first (length c.args.actors.now))
+    false c.args.node.now c.args.actors.now c.take_turns.new.refused c.take_turns.new.node c.take_turns.new.actors
+keeps g c = keeps-further c.follow_items.ensures.keeps (keeps-count c.follow_items.ensures.length c.take_turns.ensures.keeps)
+
 -- all actors stand at the end
 all_stand : (g : Given.Over) (c : goal.After-take_turns g)
-    → AllStand g.A.Actor.stands_for g.A.Actor.step_now g.A.Actor.is_stopped g.A.Actor.same_origin c.args.first c.args.stops.now
-    c.take_turns.new.refused c.args.actors.now c.take_turns.new.actors (g.N.Node.opening c.take_turns.new.node) (g.N.Node.history c.take_turns.new.node)
+    → AllStand g.N.Node g.A.Actor c.args.first c.args.stops.now c.args.actors.now
+    c.take_turns.new.refused c.take_turns.new.node c.take_turns.new.actors
 all_stand g c =
-    c.take_turns.ensures.stand c.args.actors.now (c.follow_items.ensures.stand c.args.actors.now
-    (all_stand-begun g.A.Actor.stands_for g.A.Actor.step_now g.A.Actor.is_stopped g.A.Actor.same_origin c.args.first c.args.stops.now false c.args.actors.now
-    (g.N.Node.opening c.args.node.now) (g.N.Node.history c.args.node.now) g.met.A.Actor.origin_itself c.requires.fresh c.requires.apart))
-
--- the node went on
-goes_on : (g : Given.Over) (c : goal.After-take_turns g) → GoesOn g.N.Node.opening g.N.Node.history g.N.Node.terms g.N.Node.reads_by c.args.node.now c.take_turns.new.node
-goes_on g c = goes_on-further g.N.Node.opening g.N.Node.history g.N.Node.terms g.N.Node.reads_by _ _ _ c.follow_items.ensures.node c.take_turns.ensures.node
+    (keeps g c).stand c.args.actors.now
+    (all_stand-begun g.N.Node g.A.Actor c.args.first c.args.stops.now false c.args.node.now c.args.actors.now
+    g.met.A.Actor.origin_itself c.requires.fresh c.requires.apart)
 
 pub returns-clause-stands : goal.returns-clause-stands
 returns-clause-stands g c k a there =
@@ -30,7 +32,8 @@ pub returns-clause-origin : goal.returns-clause-origin
 returns-clause-origin g c k begun a at there = ((all_stand g c).each k begun a at there).origin
 
 pub returns-clause-ended : goal.returns-clause-ended
-returns-clause-ended g c k a there = no-step g.A.Actor.step_now c.args.first c.take_turns.new.actors k a there (c.take_turns.ensures.ended (c.args.first + k))
+returns-clause-ended g c k a there =
+    no-step g.A.Actor.step_now c.args.first c.take_turns.new.actors k a there (c.take_turns.ensures.ended (c.args.first + k))
 
 pub returns-clause-within : goal.returns-clause-within
 returns-clause-within g c k most low stop =
@@ -46,13 +49,16 @@ returns-clause-stopped g c k begun a at there = ((all_stand g c).each k begun a 
 
 pub returns-clause-kept : goal.returns-clause-kept
 returns-clause-kept g c i low =
-    let on = goes_on g c in
+    let on = (keeps g c).goes_on in
     ap (λ h. slice_get h i) on.grown ∙ get-longer (g.N.Node.history c.args.node.now) on.added i low
+
+pub returns-clause-others : goal.returns-clause-others
+returns-clause-others g c = (keeps g c).others
 
 pub returns-clause-known : goal.returns-clause-known
 returns-clause-known g c =
-    let on = goes_on g c in
-    known-callers c.args.first (length c.args.actors.now) (g.N.Node.opening c.args.node.now) (g.N.Node.opening c.take_turns.new.node) (g.N.Node.history c.args.node.now) on.added
+    let on = (keeps g c).goes_on in
+    known-callers c.args.first (length c.args.actors.now) (g.N.Node.opening c.args.node.now) (g.N.Node.opening c.take_turns.new.node)
+    (g.N.Node.history c.args.node.now) on.added
     (g.N.Node.history c.take_turns.new.node) on.grown
-    (λ other outside. c.take_turns.ensures.others other (subst (λ m. (other < c.args.first) ⊎ (c.args.first + m ≤ other)) (sym c.follow_items.ensures.length) outside)
-    ∙ c.follow_items.ensures.others other outside)
+    (keeps g c).others

@@ -1,20 +1,18 @@
-use Rattle.std.proofs.Common.{◌+◌, ◌<◌, ◌≤◌, ◌⊎◌, ◌≡◌, Some, length, refl, sym, ap, ◌∙◌, subst}
+use Rattle.std.proofs.Common.{◌+◌, ◌<◌, ◌≤◌, ◌⊎◌, ◌≡◌, Some, true, length, refl, sym, ap, ◌∙◌, subst}
 use Rattle.std.proofs.lemmas.List.{length-map}
 use Rattle.cbt_model.specs.declared.events.Event.{Event}
 use Rattle.cbt_sched.specs.Turns.{callers}
-use Rattle.cbt_sched.proofs.Actors.{all_stand-at, all_stand-refused, asks-others, visits-at, visits-unknown}
+use Rattle.cbt_sched.proofs.Actors.{asks-others, keeps-ahead, keeps-at, visits-at, visits-unknown}
 use Rattle.cbt_sched.proofs.Calling.{holds-at_err, holds-at_ok}
 use Rattle.cbt_sched.proofs.Following.{asked_of, follows-ahead, follows-asked, follows-missed}
 use Rattle.cbt_sched.proofs.items.follow_item.Goals as goal
 use Rattle.cbt_sched.proofs.items.follow_item.Goals.{in-Calls, in-All}
 
-pub returns-in-Some-clause-stand : goal.returns-in-Some-clause-stand
-returns-in-Some-clause-stand g c begun =
-    let e = c.make_calls.ensures in
-    all_stand-at g.A.Actor.stands_for g.A.Actor.step_now g.A.Actor.is_stopped g.A.Actor.same_origin c.args.first c.args.stops.now
-    c.args.refused.now c.make_calls.new.refused begun c.args.actors.now (g.N.Node.opening c.args.node.now) (g.N.Node.opening c.make_calls.new.node)
-    (g.N.Node.history c.args.node.now) (g.N.Node.history c.make_calls.new.node) c.in-Some.place c.at_mut-actor.result.now c.make_calls.new.actor c.match-item.number.0 c.first_stop-stop.result
-    c.in-Some.ensures.place.0 c.first_stop-stop.ensures c.at_mut-actor.ensures.value e.stands e.others e.refused
+pub returns-in-Some-clause-keeps : goal.returns-in-Some-clause-keeps
+returns-in-Some-clause-keeps g c =
+    keeps-at g.N.Node g.A.Actor c.args.first c.args.stops.now c.args.refused.now c.make_calls.new.refused c.args.node.now c.make_calls.new.node
+    c.args.actors.now c.in-Some.place c.at_mut-actor.result.now c.make_calls.new.actor c.at_mut-actor.ensures.value c.match-item.number.0
+    c.stop_of-stop.result c.in-Some.ensures.place.0 c.stop_of-stop.ensures c.make_calls.ensures.keeps
 
 pub returns-in-Some-clause-follows : goal.returns-in-Some-clause-follows
 returns-in-Some-clause-follows g c n agreed =
@@ -26,8 +24,8 @@ returns-in-Some-clause-follows g c n agreed =
     ] in
     follows-asked c.args.item c.match-item.number asked c.make_calls.new.refused _ _ _ _ _ _
     (asks-others g.A.Actor.step_now c.args.first c.args.actors.now c.in-Some.place c.make_calls.new.actor c.match-item.number.0 same) e.marks n agreed
-    (visits-at g.A.Actor.step_now c.args.first c.args.actors.now c.in-Some.place c.at_mut-actor.result.now c.make_calls.new.actor c.match-item.number.0 _ _ _ same
-    c.at_mut-actor.ensures.value e.calls)
+    (visits-at g.A.Actor.step_now c.args.first c.args.actors.now c.in-Some.place c.at_mut-actor.result.now c.make_calls.new.actor
+    c.match-item.number.0 _ _ _ same c.at_mut-actor.ensures.value e.calls)
 
 pub returns-in_default-clause-follows : goal.returns-in_default-clause-follows
 returns-in_default-clause-follows g c n agreed =
@@ -37,12 +35,20 @@ returns-in_default-clause-follows g c n agreed =
     ] in
     follows-asked c.args.item c.match-item.number asked c.args.refused.now _ _ _ _ _ _ (λ b apart. refl) refl n agreed
     (visits-unknown g.A.Actor.step_now c.args.first c.args.actors.now c.match-item.number.0 _ _
-    (subst (λ m. (c.match-item.number.0 < c.args.first) ⊎ (c.args.first + m ≤ c.match-item.number.0)) c.len.ensures (c.in_default.ensures.unknown refl)))
+    (subst (λ m. (c.match-item.number.0 < c.args.first) ⊎ (c.args.first + m ≤ c.match-item.number.0)) c.len.ensures
+    (c.in_default.ensures.unknown refl)))
 
-pub returns-then-is_err-clause-stand : goal.returns-then-is_err-clause-stand
-returns-then-is_err-clause-stand g c begun =
-    all_stand-refused g.A.Actor.stands_for g.A.Actor.step_now g.A.Actor.is_stopped g.A.Actor.same_origin c.args.first c.args.stops.now
-    c.args.refused.now begun c.args.actors.now _ _ _ _ c.advance.ensures.opening c.advance.ensures.history
+pub returns-then-is_err-clause-keeps : goal.returns-then-is_err-clause-keeps
+returns-then-is_err-clause-keeps g c =
+    let e = c.advance.ensures in
+    keeps-ahead g.N.Node g.A.Actor c.args.first c.args.stops.now _ c.args.refused.now true
+    c.args.node.now c.advance.new.self c.args.actors.now e.opening e.history e.terms e.readings (λ fine. absurd (cc))
+
+pub returns-else-is_err-clause-keeps : goal.returns-else-is_err-clause-keeps
+returns-else-is_err-clause-keeps g c =
+    let e = c.advance.ensures in
+    keeps-ahead g.N.Node g.A.Actor c.args.first c.args.stops.now _ c.args.refused.now c.args.refused.now
+    c.args.node.now c.advance.new.self c.args.actors.now e.opening e.history e.terms e.readings (λ fine. fine)
 
 pub returns-then-is_err-clause-follows : goal.returns-then-is_err-clause-follows
 returns-then-is_err-clause-follows g c n agreed =

@@ -1,6 +1,5 @@
-use Rattle.std.proofs.Common.{◌≡◌, ℕ, ◌+◌, ◌-◌, ◌<◌, ◌≤◌, ◌⊎◌, Bool, true, false, List, length, sum_by}
-use Rattle.cbt_model.specs.History.{own}
-use Rattle.cbt_sched.specs.Driving.{AllStand, GoesOn, InRound, asks}
+use Rattle.std.proofs.Common.{◌≡◌, ℕ, ◌+◌, ◌-◌, ◌<◌, ◌≤◌, Bool, true, false, List, length, sum_by}
+use Rattle.cbt_sched.specs.Driving.{AllStand, InRound, IsOutside, Keeps, asks}
 use Rattle.cbt_sched.specs.Positions.{LeadsOn}
 use Rattle.cbt_sched.specs.Turns.{callers}
 use Rattle.cbt_sched.proofs.rounds.one_round.Given as goal
@@ -12,24 +11,18 @@ invariant-loop-at g l = record {
   before : l.last < l.at;
   going : LeadsOn l.first (length l.initial.actors) l.going.next (asks g.A.Actor.step_now l.first l.actors);
   span : (j : ℕ) → l.last ≤ j → j < l.at - 1 → asks g.A.Actor.step_now l.first l.actors (l.first + j) ≡ false;
-  node : GoesOn g.N.Node.opening g.N.Node.history g.N.Node.terms g.N.Node.reads_by l.initial.node l.node;
+  keeps : Keeps g.N.Node (AllStand g.N.Node g.A.Actor l.first l.stops) (IsOutside l.first (length l.initial.actors))
+      l.initial.refused l.initial.node l.initial.actors l.refused l.node l.actors;
   marks : g.N.Node.marks l.node ≡ g.N.Node.marks l.initial.node;
   same_length : length l.actors ≡ length l.initial.actors;
-  stand : (begun : List g.row.A.Denot)
-      → AllStand g.A.Actor.stands_for g.A.Actor.step_now g.A.Actor.is_stopped g.A.Actor.same_origin l.first l.stops l.initial.refused begun l.initial.actors
-      (g.N.Node.opening l.initial.node) (g.N.Node.history l.initial.node)
-      → AllStand g.A.Actor.stands_for g.A.Actor.step_now g.A.Actor.is_stopped g.A.Actor.same_origin l.first l.stops l.refused begun l.actors
-      (g.N.Node.opening l.node) (g.N.Node.history l.node);
-  others : (other : ℕ) → (other < l.first) ⊎ (l.first + length l.initial.actors ≤ other)
-      → own (g.N.Node.opening l.node) (g.N.Node.history l.node) other (length (g.N.Node.history l.node))
-      ≡ own (g.N.Node.opening l.initial.node) (g.N.Node.history l.initial.node) other (length (g.N.Node.history l.initial.node));
   round : (ordered : List ℕ) (at_first : ℕ → Bool) (r : ℕ)
-      → InRound l.first (length l.initial.actors) ordered at_first r 0 (callers (g.N.Node.history l.initial.node)) (asks g.A.Actor.step_now l.first l.initial.actors)
-      → InRound l.first (length l.initial.actors) ordered at_first r (l.at - 1) (callers (g.N.Node.history l.node)) (asks g.A.Actor.step_now l.first l.actors);
+      → InRound l.first (length l.initial.actors) ordered at_first r 0 (callers (g.N.Node.history l.initial.node))
+      (asks g.A.Actor.step_now l.first l.initial.actors)
+      → InRound l.first (length l.initial.actors) ordered at_first r (l.at - 1) (callers (g.N.Node.history l.node))
+      (asks g.A.Actor.step_now l.first l.actors);
   ended : l.called ≡ false → (number : ℕ) → number < l.first + (l.at - 1) → asks g.A.Actor.step_now l.first l.actors number ≡ false;
   no_more : sum_by g.A.Actor.calls_left l.actors ≤ sum_by g.A.Actor.calls_left l.initial.actors;
   fewer : l.called ≡ true → sum_by g.A.Actor.calls_left l.actors < sum_by g.A.Actor.calls_left l.initial.actors;
-  refused : l.refused ≡ false → l.initial.refused ≡ false;
 }
 
 abbrev pub decreases-loop-at : goal.decreases-loop-at

@@ -2,8 +2,8 @@ use Rattle.std.proofs.Common.{length, refl, sym, suc, subst}
 use Rattle.cbt_sched.specs.Driving.{InRound, asks}
 use Rattle.cbt_sched.specs.Turns.{callers}
 use Rattle.cbt_sched.proofs.Actors.{asks-within}
+use Rattle.cbt_sched.proofs.Keeping.{keeps-same}
 use Rattle.cbt_sched.proofs.Leading.{leads_on-begun}
-use Rattle.cbt_sched.proofs.Nodes.{goes_on-same}
 use Rattle.cbt_sched.proofs.Rounding.{round-none, rounds-whole}
 use Rattle.cbt_sched.proofs.rounds.take_turns.Goals as goal
 
@@ -24,13 +24,11 @@ returns-clause-rounds g c =
 
 pub loop-alloc-init : goal.loop-alloc-init
 loop-alloc-init g c = record {
-  going = leads_on-begun c.args.first (length c.args.actors.now) c.all-going.result.next (asks g.A.Actor.step_now c.args.first c.args.actors.now) c.all-going.ensures;
-  node = goes_on-same g.N.Node.opening g.N.Node.history g.N.Node.terms g.N.Node.reads_by _;
+  going = leads_on-begun c.args.first (length c.args.actors.now) c.all-going.result.next
+      (asks g.A.Actor.step_now c.args.first c.args.actors.now) c.all-going.ensures;
+  keeps = keeps-same;
   marks = refl;
   same_length = refl;
-  stand = λ begun all. all;
-  others = λ other outside. refl;
   made = 0;
   rounds = round-none c.args.first (length c.args.actors.now) _ _ (asks-within g.A.Actor.step_now c.args.first c.args.actors.now);
-  refused = λ fine. fine;
 }

@@ -17,3 +17,6 @@ returns-then-is_sim-clause-never_both g c script book s b = (c.sim.ensures.run s
 
 pub returns-then-is_sim-clause-commits_once : goal.returns-then-is_sim-clause-commits_once
 returns-then-is_sim-clause-commits_once g c script book s b = (c.sim.ensures.run script book s b).commits_once
+
+pub returns-then-is_sim-clause-at_most_once : goal.returns-then-is_sim-clause-at_most_once
+returns-then-is_sim-clause-at_most_once g c script book s b = (c.sim.ensures.run script book s b).at_most_once
