@@ -1,5 +1,5 @@
 -- A cleaner's pass over one transaction record.
-use Rattle.std.specs.Prelude.{◌≡◌, ◌≢◌, ℕ, ◌+◌, ◌*◌, ◌≤◌, ◌⊎◌, Bool, true, nat_lt, List, [], ◌∷◌, ◌++◌, length, map, filter}
+use Rattle.std.specs.Prelude.{◌≡◌, ◌≢◌, ℕ, ◌+◌, ◌*◌, ◌≤◌, ◌⊎◌, Bool, true, false, ◌==◌, nat_lt, List, [], ◌∷◌, ◌++◌, length, map, filter, count_by}
 use Rattle.std.specs.List.{sum_by}
 use Rattle.cbt_base.specs.Clock.{ms_of}
 use Rattle.cbt_model.specs.History.{is_done}
@@ -12,6 +12,7 @@ use Rattle.cbt_model.specs.declared.steps.Reply.TheVariants as reply
 use Rattle.cbt_model.specs.declared.steps.Step.{Step}
 use Rattle.cbt_model.specs.declared.steps.Step.TheVariants as step
 use Rattle.cbt_book.specs.OwnLists.{Once, Each, In, during}
+use Rattle.cbt_book.specs.Outcomes.{EndsFailed}
 use Rattle.cbt_book.specs.Shown.{ReadsEntry, FindsNoEntry}
 use Rattle.cbt_book.specs.Spans.{IsSpan}
 use Rattle.cbt_book.specs.declared.cleaners.PassEnd.{PassEnd}
@@ -40,31 +41,50 @@ pub data Finishes (r a : ℕ) (calls : List Made) : Type 0 where
   pending : Once (λ m before. ((e : Entry) × ReadsEntry r a e m × (e.state ≡ Pending))
       × Once (λ n _. (n.step ≡ step.DropEntry r a true) × (n.answer.reply ≡ reply.Decided)) before) calls → Finishes r a calls
 
--- what a pass over record r may call behind its reading of the record
-abbrev pub MayPass : ℕ → Step → Type 0
-MayPass r (step.ReadDoc d) = Unit {0}
-MayPass r (step.Publish d x body) = Unit {0}
-MayPass r (step.Delete d x) = Unit {0}
-MayPass r (step.Unstick d x) = Unit {0}
-MayPass r (step.ReadEntry q a) = q ≡ r
-MayPass r (step.DropEntry q a guarded) = q ≡ r
-MayPass r _ = ⊥
+-- the attempts that a pass covers by this answer to its reading of the record
+abbrev pub covered_by : Reply → ℕ → List ℕ
+covered_by (reply.Entries entries) now = expired_in entries now
+covered_by _ now = []
+
+-- whether a step drops the entry of attempt a
+abbrev pub drops_entry_of : ℕ → Step → Bool
+drops_entry_of a (step.DropEntry r b guarded) = a == b
+drops_entry_of a _ = false
+
+-- what a pass over record r that covers these attempts may call behind its reading of the record and these calls: readings of
+-- documents and what takes stagings off; and for each covered attempt one reading and two drops of its entry
+abbrev pub MayPass : ℕ → List ℕ → List Made → Step → Type 0
+MayPass r covered past (step.ReadDoc d) = Unit {0}
+MayPass r covered past (step.Publish d x body) = Unit {0}
+MayPass r covered past (step.Delete d x) = Unit {0}
+MayPass r covered past (step.Unstick d x) = Unit {0}
+MayPass r covered past (step.ReadEntry q a) = (q ≡ r) × In a covered × (¬ Once (λ m _. m.step ≡ step.ReadEntry r a) past)
+MayPass r covered past (step.DropEntry q a guarded) = (q ≡ r) × In a covered × (count_by (λ m. drops_entry_of a m.step) past ≤ 1)
+MayPass r covered past _ = ⊥
+
+-- whether a step of a pass is about a document
+abbrev pub is_about_doc : Step → Bool
+is_about_doc (step.ReadDoc d) = true
+is_about_doc (step.Publish d x body) = true
+is_about_doc (step.Delete d x) = true
+is_about_doc (step.Unstick d x) = true
+is_about_doc _ = false
 
 -- the calls for the documents that lists name: a reading of each, and what takes the staging off
 abbrev pub calls_for : Lists → ℕ
 calls_for lists = 2 * (length lists.ins + length lists.rep + length lists.rem)
 
--- how many calls follow from this answer at this time at most: three for each expired entry, and those for the documents listed
-abbrev pub calls_due : ℕ → Reply → ℕ
-calls_due now (reply.Entries entries) = sum_by (λ e. 3 + calls_for e.1.lists) (filter (λ e. is_expired now e.1) entries)
-calls_due now (reply.Entry e) = calls_for e.lists
-calls_due now _ = 0
+-- how many calls on documents follow from this answer at most: those for what the expired entries list, or the entry that was read
+abbrev pub docs_due : Reply → ℕ → ℕ
+docs_due (reply.Entries entries) now = sum_by (λ e. calls_for e.1.lists) (filter (λ e. is_expired now e.1) entries)
+docs_due (reply.Entry e) now = calls_for e.lists
+docs_due _ now = 0
 
 -- the calls of a pass over record r, whether or not it has ended: a reading of the record, and after it calls of a pass alone
 pub record PassCalls (r : ℕ) (first : Made) (later : List Made) : Type 0 where
   pub reads : first.step ≡ step.ReadAtr r
-  pub only : Each (λ m _. MayPass r m.step) later
-  pub few : length later ≤ sum_by (λ m. calls_due m.answer.now m.answer.reply) (later ++ first ∷ [])
+  pub only : Each (λ m past. MayPass r (covered_by first.answer.reply first.answer.now) past m.step) later
+  pub documents : count_by (λ m. is_about_doc m.step) later ≤ sum_by (λ m. docs_due m.answer.reply m.answer.now) (later ++ first ∷ [])
 
 -- a pass that ended Ok keeps the expired attempts of its first reading, each of which it has finished, and no call of it failed
 pub record PassKept (r : ℕ) (first : Made) (calls : List Made) (covered : List ℕ) : Type 0 where
@@ -74,10 +94,10 @@ pub record PassKept (r : ℕ) (first : Made) (calls : List Made) (covered : List
   pub finished : (a : ℕ) → In a covered → Finishes r a calls
   pub answered : Each (λ m _. m.answer.reply ≢ reply.Failed) calls
 
--- a pass ends so: Ok, or by a call that failed
+-- a pass ends so: Ok, or by the first call that failed
 abbrev pub EndsPass : ℕ → Made → List Made → PassEnd → Type 0
 EndsPass r first calls (pass_end.Ok covered) = PassKept r first calls covered
-EndsPass r first calls (pass_end.CallFailed place) = Once (λ m _. (m.answer.place ≡ place) × (m.answer.reply ≡ reply.Failed)) calls
+EndsPass r first calls (pass_end.CallFailed place) = (it : EndsFailed place calls) × Each (λ m _. m.answer.reply ≢ reply.Failed) it.older
 
 -- the log of a pass
 pub record PassFollows (l : List Made) (at : ℕ) (log : PassLog) : Type 0 where

@@ -1,19 +1,12 @@
 -- Stops: an actor is stopped by the script alone, once it has made just as many calls as its stop names and has a next one.
-use Rattle.std.specs.Prelude.{◌≡◌, ◌≢◌, ℕ, suc, ◌+◌, ◌≤◌, Bool, true, false, List, [], ◌∷◌, ◌++◌, length, Option, Some, None, Ok, Err}
-use Rattle.cbt_json.specs.declared.value.Json.{Json}
+use Rattle.std.specs.Prelude.{◌≡◌, ◌≢◌, ℕ, suc, ◌+◌, ◌≤◌, Bool, true, false, List, [], ◌∷◌, ◌++◌, length, Some, Ok, Err}
 use Rattle.cbt_expr.specs.declared.plans.ClientPlan.{ClientPlan}
 use Rattle.cbt_expr.specs.declared.plans.Op.{Op}
 use Rattle.cbt_expr.specs.declared.plans.TxnPlan.{TxnPlan}
 use Rattle.cbt_model.specs.Stops.{stop_of}
-use Rattle.cbt_model.specs.declared.documents.Stage.{Stage}
-use Rattle.cbt_model.specs.declared.entries.Entry.{Entry}
-use Rattle.cbt_model.specs.declared.entries.EntryState.TheVariants.{Committed}
 use Rattle.cbt_model.specs.declared.events.Made.{Made}
-use Rattle.cbt_model.specs.declared.steps.Reply.TheVariants as reply
-use Rattle.cbt_book.specs.Calls.{writes_doc}
 use Rattle.cbt_book.specs.Cleaners.{AtLast, HasNext}
 use Rattle.cbt_book.specs.OwnLists.{In, during}
-use Rattle.cbt_book.specs.Shown.{ReadsDoc, FindsNoDoc, ReadsEntry, FindsNoEntry}
 use Rattle.cbt_book.specs.declared.book.Book.{Book}
 use Rattle.cbt_book.specs.declared.cleaners.CleanerLog.{CleanerLog}
 use Rattle.cbt_book.specs.declared.clients.AttemptEnd.{AttemptEnd}
@@ -24,7 +17,7 @@ use Rattle.cbt_book.specs.declared.clients.TxnEnd.TheVariants as txn_end
 use Rattle.cbt_book.specs.declared.clients.TxnLog.{TxnLog}
 use Rattle.cbt_book.specs.declared.operations.OpAnswer.{OpAnswer}
 use Rattle.cbt_core.specs.Attempts.{AttemptFollows, Course, Ends, IsLate, LastIs, all_good, course_of}
-use Rattle.cbt_core.specs.OpAnswers.{Answered, agrees}
+use Rattle.cbt_core.specs.OpAnswers.{Answered}
 use Rattle.cbt_core.specs.Operations.{is_good}
 use Rattle.cbt_core.specs.Runs.{cleaner_plan, own_of}
 use Rattle.cbt_core.specs.Transactions.{TxnTerms, HasTry, attempt_terms, attempts_end, now_before, start_of}
@@ -38,25 +31,6 @@ WasStopped [] = ⊥
 WasStopped (log ∷ []) = log.end ≡ txn_end.Stopped
 WasStopped (log ∷ next ∷ logs) = WasStopped (next ∷ logs)
 
--- a get is not over with this call: it showed the document staged, or that its staging's entry is committed or not there
-pub data LeavesOpen (d : List ℕ) (m : Made) : Type 0 where
-  staged : (x : ℕ) (body : Option Json) (stage : Stage) → ReadsDoc d x body (Some stage) m → LeavesOpen d m
-  committed : (r a : ℕ) (e : Entry) → ReadsEntry r a e m → e.state ≡ Committed → LeavesOpen d m
-  missing : (r a : ℕ) → FindsNoEntry r a m → LeavesOpen d m
-
--- a write is not over with this call: it did not fail, is not the write, and shows no document that refuses the write
-pub record GoesOnWriting (d : List ℕ) (agreeing : Option Json → Bool) (m : Made) : Type 0 where
-  pub answered : m.answer.reply ≢ reply.Failed
-  pub unwritten : writes_doc m.step ≡ false
-  pub found : (x : ℕ) (body : Option Json) → ReadsDoc d x body None m → agreeing body ≡ true
-  pub absent : FindsNoDoc d m → agreeing None ≡ true
-
--- an operation that asks for this is not over with this call
-abbrev pub GoesOnAfter : Request → Made → Type 0
-GoesOnAfter (Reads d name) m = LeavesOpen d m
-GoesOnAfter (Writes d kind content) m = GoesOnWriting d (agrees kind) m
-GoesOnAfter (Tests truth) m = ⊥
-
 -- why operations of an attempt, or what follows them, have a call to make
 pub data Asks (t : AttemptTerms) (l : List Made) (c : Course) : Type 0 where
   -- it closes, or is to close
@@ -64,12 +38,9 @@ pub data Asks (t : AttemptTerms) (l : List Made) (c : Course) : Type 0 where
   all_answered : c.left ≡ [] → Asks t l c
   refused : LastIs (λ log. is_good log.answer ≡ false) c.log.ops → Asks t l c
   late : IsLate t c.cut → Asks t l c
-  -- an operation is under way
-  under_way : (next : Op) (rest : List Op) (newest : Made) (older : List Made) → c.left ≡ next ∷ rest → c.cut ≡ newest ∷ older
-      → GoesOnAfter (request_of c.sofar.bound next) newest → Asks t l c
-  -- the next operation cannot be answered without a call
-  next_operation : (next : Op) (rest : List Op) → c.left ≡ next ∷ rest → c.cut ≡ [] → all_good c.log.ops ≡ true
-      → ((a : OpAnswer) → ¬ Answered t l c.sofar (request_of c.sofar.bound next) [] a) → Asks t l c
+  -- an operation is under way, or is to begin, that has no answer by the calls that it has made
+  unanswered : (next : Op) (rest : List Op) → c.left ≡ next ∷ rest → all_good c.log.ops ≡ true
+      → ((a : OpAnswer) → ¬ Answered t l c.sofar (request_of c.sofar.bound next) c.cut a) → Asks t l c
 
 -- an attempt that was stopped had a call to make: it has no other end, and its operations or what follows them ask for one
 pub record HasCall (t : AttemptTerms) (l : List Made) (at : ℕ) (log : AttemptLog) : Type 0 where

@@ -5,4 +5,6 @@ mod case;
 mod laws;
 
 pub use case::Case;
-pub use laws::{fresh_openings, invariant, k1, k2, k3, k4, k5, k6, tables_count_commits};
+pub use laws::{
+    completeness, fresh_openings, invariant, k1, k2, k3, k4, k5, k6, tables_count_commits,
+};

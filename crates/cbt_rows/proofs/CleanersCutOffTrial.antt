@@ -145,7 +145,7 @@ cleaner_1-follows = record {
           first = m2;
           later = [];
           calls = refl;
-          may = record { reads = refl; only = tt; few = lit≤ tt };
+          may = record { reads = refl; only = tt; documents = lit≤ tt };
           ends = record {
             entries = ([]);
             shown = refl;

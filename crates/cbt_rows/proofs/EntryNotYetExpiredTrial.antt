@@ -232,7 +232,7 @@ cleaner_1-follows = record {
           first = m5;
           later = [];
           calls = refl;
-          may = record { reads = refl; only = tt; few = lit≤ tt };
+          may = record { reads = refl; only = tt; documents = lit≤ tt };
           ends = record {
             entries = ((attempt_number 1 1 1, (entry_of Pending 1000996864 15000 (lists_of [] [] []))) ∷ []);
             shown = refl;

@@ -284,7 +284,7 @@ cleaner_1-follows = record {
       first = m5;
       later = (m7 ∷ m6 ∷ []);
       calls = refl;
-      may = record { reads = refl; only = (refl ▸ tt ▸ tt); few = lit≤ tt };
+      may = record { reads = refl; only = ((refl, inl refl, lit≤ tt) ▸ tt ▸ tt); documents = lit≤ tt };
       ends = record {
         entries = ((attempt_number 1 1 1, (entry_of Committed 1000996864 15000 (lists_of [] (doc_a ∷ []) []))) ∷ []);
         shown = refl;

@@ -4,6 +4,7 @@ pub mod Fits
 pub mod WrittenValues
 pub mod Requested
 pub mod Stops
+pub mod NotYetAnswered
 pub mod Passes
 pub mod Needs
 pub mod Readings

@@ -358,7 +358,7 @@ cleaner_1-follows = record {
           first = m6;
           later = (m10 ∷ m9 ∷ m7 ∷ []);
           calls = refl;
-          may = record { reads = refl; only = (refl ▸ tt ▸ tt ▸ tt); few = lit≤ tt };
+          may = record { reads = refl; only = ((refl, inl refl, lit≤ tt) ▸ tt ▸ tt ▸ tt); documents = lit≤ tt };
           ends = record {
             entries = ((attempt_number 1 1 1, (entry_of Committed 1000996864 1000 (lists_of [] (doc_a ∷ []) []))) ∷ []);
             shown = refl;

@@ -8,6 +8,7 @@ use Rattle.cbt_core.specs.Laws.{IsPass}
 use Rattle.cbt_core.specs.Lawful.{IsLawfulRun}
 use Rattle.cbt_core.specs.Openings.{IsSound, AreFresh}
 use Rattle.cbt_core.specs.Runs.{LogsFollow}
+use Rattle.cbt_core.specs.Stops.{StopsKept}
 use Rattle.cbt_core.specs.declared.case.Case.{Case}
 use Rattle.cbt_rows.proofs.CleanerFreesPendingStageTrial as trial
 use Rattle.cbt_rows.specs.CleanerFreesPendingStage.{opening, history, run_case, book, cleaner_1, round_1_1, pass_1_1_1}
@@ -15,6 +16,7 @@ use Rattle.cbt_rows.specs.CleanerFreesPendingStage.{opening, history, run_case, 
 pub record Met (c : Case) (b : Book) : Type 0 where
   pub lawful : IsLawfulRun c b
   pub follow : LogsFollow c b
+  pub kept : StopsKept c b
 
 pub met : (c : Case) (b : Book) → c ≡ run_case → b ≡ book → ((s : State) → IsFresh s → IsSound s) → ((s : State) (h : List Event) → IsFresh s → AreFresh s h) → Met c b
 met c b case_is book_is sound fresh =
@@ -22,6 +24,7 @@ met c b case_is book_is sound fresh =
     (record {
       lawful = record { legal = trial.legal; licensed = trial.licensed; sound = sound opening trial.fresh; fresh = fresh opening history trial.fresh };
       follow = trial.follow;
+      kept = trial.stops_kept;
     }))
 
 -- the cleaner's pass

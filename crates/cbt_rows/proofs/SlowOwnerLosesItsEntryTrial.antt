@@ -571,7 +571,7 @@ cleaner_1-follows = record {
           first = m5;
           later = (m6 ∷ []);
           calls = refl;
-          may = record { reads = refl; only = (refl ▸ tt); few = lit≤ tt };
+          may = record { reads = refl; only = ((refl, inl refl, lit≤ tt) ▸ tt); documents = lit≤ tt };
           ends = record {
             entries = ((attempt_number 1 1 1, (entry_of Pending 1000996864 1000 (lists_of [] [] []))) ∷ []);
             shown = refl;

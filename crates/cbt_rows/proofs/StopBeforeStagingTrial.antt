@@ -28,7 +28,8 @@ use Rattle.cbt_core.specs.WriteSets.{numbered}
 use Rattle.cbt_rows.proofs.Named.{found-all, both_numbered, nothing, all_from, own-none, all_numbered, all_planned, one_value, not_me, ◌▸◌, by_number}
 use Rattle.cbt_rows.proofs.Never.{never_of, never_writes, not_third, unfailed, no_bool, filled}
 use Rattle.cbt_rows.proofs.Requested.{calls_as, replaces-n2}
-use Rattle.cbt_rows.proofs.Stops.{clients_stopped, within_one, stopped_before_closing, writes_on}
+use Rattle.cbt_rows.proofs.Stops.{clients_stopped, within_one, stopped_before_closing}
+use Rattle.cbt_rows.proofs.NotYetAnswered.{not_yet}
 use Rattle.cbt_rows.specs.Words.{HasValue, doc_a, n}
 use Rattle.cbt_rows.specs.Written.{n_of}
 use Rattle.cbt_rows.specs.StopBeforeStaging.{opening, past_0, past_1, history, marks, plans, run_case, book, e1, m0, m1, made_1, plan_1_1, client_1, txn_1_1, attempt_1_1_1}
@@ -177,8 +178,7 @@ follow = record {
 attempt_1_1_1-stopped : HasCall (transactions.attempt_terms txn_1_1-terms 1000 1) made_1 0 attempt_1_1_1
 unfolding attempt_1_1_1-follows
 attempt_1_1_1-stopped = stopped_before_closing (transactions.attempt_terms txn_1_1-terms 1000 1) made_1 0 attempt_1_1_1 attempt_1_1_1-follows refl refl
-    (inl refl) (stops.under_way (op.Replace doc_a (n_of 2)) [] m1 past_0 refl refl
-    (writes_on (replaces-n2 {so = walk.nothing_yet} doc_a) m1 refl refl refl))
+    (inl refl) (stops.unanswered (op.Replace doc_a (n_of 2)) [] refl refl not_yet)
 
 pub stops_kept : StopsKept run_case book
 stops_kept = clients_stopped run_case book (within_one run_case book 1 2 refl (subst (λ l. length l ≤ 2) (sym own-1) (lit≤ tt))) refl ((λ h. (

@@ -1,16 +1,12 @@
 -- Runs in which stops are kept: an actor has a stop where its log tells of one, and made no more calls than that.
-use Rattle.std.proofs.Common.{◌≡◌, ◌≢◌, ℕ, suc, zero, Bool, true, false, ◌&&◌, not, inl, inr, List, [], ◌∷◌, ◌+◌, ◌≤◌, length, Option, Some, None, Result, refl, sym, ap, ◌∙◌, subst}
+use Rattle.std.proofs.Common.{◌≡◌, ◌≢◌, ℕ, suc, zero, Bool, true, false, ◌&&◌, not, inl, inr, List, [], ◌∷◌, ◌+◌, ◌≤◌, length, Some, None, refl, sym, ap, ◌∙◌, subst}
 use Rattle.std.specs.List.{list_all}
-use Rattle.cbt_json.specs.declared.value.Json.{Json}
 use Rattle.cbt_expr.specs.declared.plans.ClientPlan.{ClientPlan}
-use Rattle.cbt_expr.specs.declared.plans.Op.{Op}
 use Rattle.cbt_model.specs.Stops.{stop_of}
-use Rattle.cbt_model.specs.declared.documents.OpKind.{OpKind}
 use Rattle.cbt_model.specs.declared.entries.Lists.{Lists}
 use Rattle.cbt_model.specs.declared.events.Made.{Made}
 use Rattle.cbt_model.specs.declared.steps.Reply.TheVariants as reply
 use Rattle.cbt_model.specs.declared.steps.Step.TheVariants as step
-use Rattle.cbt_book.specs.Calls.{writes_doc, reads_doc}
 use Rattle.cbt_book.specs.Cleaners.{AtLast, HasNext}
 use Rattle.cbt_book.specs.Closing.{CommitHolds, told, read, IsUndone, unsent, no_entry, dropped, finishes}
 use Rattle.cbt_book.specs.OwnLists.{Once, Each, during}
@@ -26,13 +22,12 @@ use Rattle.cbt_book.specs.declared.clients.TxnEnd.TheVariants as txn_end
 use Rattle.cbt_book.specs.declared.clients.TxnLog.{TxnLog}
 use Rattle.cbt_core.specs.Attempts.{AttemptFollows, Ends, course_of}
 use Rattle.cbt_core.specs.Runs.{cleaner_plan, own_of}
-use Rattle.cbt_core.specs.Stops.{WasStopped, Asks, GoesOnAfter, HasCall, LastHasCall, StopsKept}
-use Rattle.cbt_core.specs.Walk.{AttemptTerms, Sofar, Writes, request_of}
+use Rattle.cbt_core.specs.Stops.{WasStopped, Asks, HasCall, LastHasCall, StopsKept}
+use Rattle.cbt_core.specs.Walk.{AttemptTerms}
 use Rattle.cbt_core.specs.WriteSets.{numbered}
 use Rattle.cbt_core.specs.declared.case.Case.{Case}
 use Rattle.cbt_rows.proofs.Named.{AllBoth, both_numbered, nothing, by_number, not_me}
-use Rattle.cbt_rows.proofs.Never.{no_bool, filled, same-number, is_failed, unfailed, no_doc_read}
-use Rattle.cbt_rows.proofs.Requested.{Asks as RequestIs}
+use Rattle.cbt_rows.proofs.Never.{no_bool, filled, same-number}
 
 -- ---- logs that tell of no stop
 
@@ -220,15 +215,3 @@ open_after t log cut calls r c lists m is done sent (attempt_end.Unknown commit 
 open_after t log cut calls r c lists m is done sent (attempt_end.Incomplete place) (may, inl (at, failed, aborted)) = no-failure t.id r lists c m is done failed
 open_after t log cut calls r c lists m is done sent (attempt_end.Incomplete place) (may, inr h) = absurd h
 open_after t log cut calls r c lists m is done sent attempt_end.Stopped h = refl
-
--- ---- an operation that is under way
-
--- a write is not over with a call that neither failed, nor wrote, nor read a document
-pub writes_on : {so : Sofar} {o : Op} {d : List ℕ} {kind : OpKind} {content : Result (Option Json) ℕ} → RequestIs so o (Writes d kind content) → (m : Made)
-    → is_failed m.answer.reply ≡ false → writes_doc m.step ≡ false → reads_doc m.step ≡ false → GoesOnAfter (request_of so.bound o) m
-writes_on {so} {o} {d} {kind} {content} asks m failed unwritten unread = subst (λ q. GoesOnAfter q m) (sym asks.is) (record {
-  answered = unfailed m failed;
-  unwritten = unwritten;
-  found = λ x body h. absurd (no_doc_read m d x body None unread h);
-  absent = λ h. absurd (no_bool (sym (ap reads_doc h.0) ∙ unread));
-})

@@ -238,7 +238,7 @@ cleaner_1-follows = record {
       first = m3;
       later = (m4 ∷ []);
       calls = refl;
-      may = record { reads = refl; only = (refl ▸ tt); few = lit≤ tt };
+      may = record { reads = refl; only = ((refl, inl refl, lit≤ tt) ▸ tt); documents = lit≤ tt };
       ends = record {
         entries = ((attempt_number 1 1 1, (entry_of Pending 1000996864 15000 (lists_of [] [] []))) ∷ []);
         shown = refl;

@@ -2,7 +2,9 @@ use Rattle.std.proofs.Common.{◌∷◌, [], inl, refl, subst, arith}
 use Rattle.cbt_base.specs.Ids.{attempt_number}
 use Rattle.cbt_core.specs.Laws.{CommitsOnce, DocumentsCommitted, NoUpdateLost, AtMostOnce, PassesLeaveNothing}
 use Rattle.cbt_core.specs.Right.{AnswersRight}
-use Rattle.cbt_rows.specs.CleanerFreesPendingStage.{pass_1_1_1, run_case}
+use Rattle.cbt_core.specs.Stops.{ClientsComplete}
+use Rattle.cbt_rows.specs.CleanerFreesPendingStage.{pass_1_1_1, run_case, plan_2_1, client_2}
+use Rattle.cbt_rows.proofs.Named.{nothing}
 use Rattle.cbt_rows.proofs.Premises.{met, its_pass}
 use Rattle.cbt_rows.proofs.called.laws_where_cleaner_frees_pending_stage.Goals as goal
 
@@ -44,3 +46,11 @@ returns-clause-none_lost c = subst (λ b. NoUpdateLost run_case b) c.requires.th
 
 pub returns-clause-at_most_once : goal.returns-clause-at_most_once
 returns-clause-at_most_once c = subst (λ b. AtMostOnce b) c.requires.this_book c.k6.ensures.at_most_once
+
+pub completeness-requires : goal.completeness-requires
+completeness-requires c = let it = met c.args.case.now c.args.book.now c.requires.this_case c.requires.this_book c.fresh_openings.ensures.sound c.fresh_openings.ensures.fresh in record { follow = it.follow; kept = it.kept }
+
+-- the second client has no stop
+pub returns-clause-complete : goal.returns-clause-complete
+returns-clause-complete c = subst (λ b. ClientsComplete run_case b) c.requires.this_book
+    (subst (λ x. ClientsComplete x c.args.book.now) c.requires.this_case c.completeness.ensures.clients) 2 (record { txns = plan_2_1 ∷ [] }) client_2 refl refl (λ e. nothing e)

@@ -1,7 +1,7 @@
-use Rattle.std.proofs.Common.{◌≡◌, ℕ, inl, inr, List, [], ◌∷◌, ◌++◌, refl, sym, subst, lit≤}
+use Rattle.std.proofs.Common.{◌≡◌, ℕ, List, [], ◌∷◌, ◌++◌, refl, sym, ap, ◌∙◌, subst, lit≤}
 use Rattle.cbt_model.specs.declared.events.Made.{Made}
 use Rattle.cbt_book.specs.Cleaners.{StandBehind, none, unfinished, Whole, Cut}
-use Rattle.cbt_book.specs.Passes.{MayPass, PassCalls, EndsPass}
+use Rattle.cbt_book.specs.Passes.{MayPass, PassCalls, EndsPass, covered_by}
 use Rattle.cbt_book.specs.declared.cleaners.PassEnd.{PassEnd}
 use Rattle.cbt_book.specs.declared.cleaners.PassEnd.TheVariants as pass_end
 use Rattle.cbt_rows.specs.Changes.{two_begun}
@@ -19,8 +19,10 @@ only_first m first (x ∷ y ∷ later) e = cc
 
 goes_on : (end : PassEnd) → ¬ EndsPass 0 freed.m5 (freed.m5 ∷ []) end
 goes_on (pass_end.Ok covered) kept = not_kept covered kept
-goes_on (pass_end.CallFailed place) (inl (at, failed)) = unfailed freed.m5 refl failed
-goes_on (pass_end.CallFailed place) (inr h) = h
+goes_on (pass_end.CallFailed place) (it, older) = unfailed freed.m5 refl (ap (λ (m : Made). m.answer.reply) (same it.calls_are) ∙ it.failed)
+  where
+    same : {m : Made} {l : List Made} → freed.m5 ∷ [] ≡ m ∷ l → freed.m5 ≡ m
+    same e = cc
 
 -- of two calls the newer is no call of the older's pass
 second : (r : ℕ) (first : Made) (later : List Made) → two_begun ≡ later ++ first ∷ [] → PassCalls r first later → ⊥
@@ -28,7 +30,7 @@ second r first [] e may = filled (one e)
   where
     one : {a b x : Made} → a ∷ b ∷ [] ≡ x ∷ [] → b ∷ [] ≡ []
     one e = cc
-second r first (x ∷ later) e may = subst (λ (y : Made). MayPass r y.step) (sym (same e)) may.only.0
+second r first (x ∷ later) e may = subst (λ (y : Made). MayPass r (covered_by first.answer.reply first.answer.now) later y.step) (sym (same e)) may.only.0
   where
     same : {a b x : Made} {l : List Made} → a ∷ b ∷ [] ≡ x ∷ l → a ≡ x
     same e = cc
@@ -57,7 +59,7 @@ whole (unfinished r more first later course left calls may going) = whole_cut co
 
 pub returns : goal.returns
 returns c = record {
-  begun = unfinished 0 [] freed.m5 [] refl refl refl (record { reads = refl; only = tt; few = lit≤ tt }) goes_on;
+  begun = unfinished 0 [] freed.m5 [] refl refl refl (record { reads = refl; only = tt; documents = lit≤ tt }) goes_on;
   two = two;
   ended = ended;
   whole = whole;
