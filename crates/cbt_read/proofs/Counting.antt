@@ -1,11 +1,9 @@
 -- The calls of a read are few for the stagings that it met.
-use Rattle.std.proofs.Common.{◌≡◌, ◌≢◌, ℕ, zero, suc, ◌+◌, ◌≤◌, ◌<◌, ◌==◌, Bool, true, false, not, cond, ◌⊎◌, ⊎_elim, List, [], ◌∷◌, length, count_by, Option, Some, None, refl, sym, ap, ◌∙◌, subst, arith}
+use Rattle.std.proofs.Common.{◌≡◌, ◌≢◌, ℕ, suc, ◌+◌, ◌≤◌, ◌<◌, ◌==◌, Bool, true, false, not, cond, ◌⊎◌, ⊎_elim, List, [], ◌∷◌, length, count_by, Some, None, refl, sym, ap, ◌∙◌, subst, arith}
 use Rattle.std.specs.List.{filter_map, cons_option}
 use Rattle.std.proofs.lemmas.Bool.{eqb-true}
-use Rattle.std.proofs.lemmas.Bool.Decides.{nat_tests}
 use Rattle.std.proofs.lemmas.List.Sums.{sum_by-cons}
 use Rattle.std.proofs.lemmas.Option.{none-some}
-use Rattle.cbt_json.specs.declared.value.Json.{Json}
 use Rattle.cbt_model.specs.declared.documents.Stage.{Stage}
 use Rattle.cbt_model.specs.declared.entries.Entry.{Entry}
 use Rattle.cbt_model.specs.declared.entries.EntryState.TheVariants.{Committed}
@@ -14,15 +12,16 @@ use Rattle.cbt_model.specs.declared.steps.Reply.{Reply}
 use Rattle.cbt_model.specs.declared.steps.Reply.TheVariants as reply
 use Rattle.cbt_model.specs.declared.steps.Step.{Step}
 use Rattle.cbt_model.specs.declared.steps.Step.TheVariants as step
-use Rattle.cbt_book.specs.Calls.{reads_doc, reads_entry, staged_cas, shown_cas, is_cas, is_met_anew, count_met, doc_reply, stagings_met, MayGet, GetCalls}
+use Rattle.cbt_book.specs.Calls.{reads_doc, reads_entry, shown_cas, is_cas, is_met_anew, count_met, doc_reply, stagings_met, MayGet, GetCalls}
 use Rattle.cbt_book.specs.OwnLists.{Each}
 use Rattle.cbt_book.specs.Outcomes.{ChangesHands, once, again}
-use Rattle.cbt_book.specs.Shown.{ReadsDoc, ReadsEntry, FindsNoEntry}
+use Rattle.cbt_book.specs.Shown.{ReadsEntry, FindsNoEntry}
 use Rattle.cbt_read.specs.Phases.{step_for, left_in, after}
 use Rattle.cbt_read.specs.Standing.{Decides, Knows}
 use Rattle.cbt_read.specs.declared.phases.Phase.{Phase}
 use Rattle.cbt_read.specs.declared.phases.Phase.TheVariants.{Begun, Asking, Again, Ended}
 use Rattle.cbt_read.specs.declared.phases.Staged.{Staged}
+use Rattle.cbt_read.proofs.Knowing.{some_same}
 
 abbrev readings : List Made → ℕ
 readings l = count_by (λ m. reads_doc m.step) l
@@ -32,9 +31,6 @@ entries l = count_by (λ m. reads_entry m.step) l
 
 abbrev replies : List Made → List Reply
 replies l = filter_map doc_reply l
-
-some_same : {X : Type 0} {x y : X} → Some x ≡ Some y → x ≡ y
-some_same both = cc
 
 -- a test that passes counts one more, and another none
 counts : (p : Made → Bool) (m : Made) (l : List Made) → p m ≡ true → count_by p (m ∷ l) ≡ suc (count_by p l)

@@ -14,18 +14,17 @@ use Rattle.cbt_model.specs.declared.steps.Reply.TheVariants as reply
 use Rattle.cbt_model.specs.declared.steps.Step.TheVariants as step
 use Rattle.cbt_book.specs.OwnLists.{Once}
 use Rattle.cbt_book.specs.Outcomes.{ChangesHands, once, again}
-use Rattle.cbt_book.specs.ReadAt.{IsReadAt, absent, unstaged, uncommitted, committed, dead}
+use Rattle.cbt_book.specs.ReadAt.{absent, unstaged, uncommitted, committed, dead}
 use Rattle.cbt_book.specs.Shown.{ReadsDoc, ReadsEntry, FindsNoEntry}
 use Rattle.cbt_read.specs.OpenReads.{LeavesOpen, staged, committed as told_committed, missing}
 use Rattle.cbt_read.specs.Phases.{step_for, end_in, ask, after_reading, decided, after_entry, confirmed, one_fewer, after_second, after}
-use Rattle.cbt_read.specs.Readings.{reading_of}
 use Rattle.cbt_read.specs.Standing.{WasShown, Decides, WasDecided, EndsBy, Knows}
 use Rattle.cbt_read.specs.declared.phases.Phase.{Phase}
 use Rattle.cbt_read.specs.declared.phases.Phase.TheVariants.{Begun, Asking, Again, Ended}
 use Rattle.cbt_read.specs.declared.phases.Staged.{Staged}
 use Rattle.cbt_read.specs.declared.readings.GetEnd.{GetEnd}
 
-some_same : {X : Type 0} {x y : X} → Some x ≡ Some y → x ≡ y
+pub some_same : {X : Type 0} {x y : X} → Some x ≡ Some y → x ≡ y
 some_same both = cc
 
 -- a reading that stands for itself; what is known where it shows the document staged is left to the caller
@@ -85,16 +84,21 @@ confirmed_on : (d : List ℕ) (it : Staged) (gone : Bool) (place left : ℕ) (mi
 confirmed_on d it false place left mine m body other is told was =
     let told_by = was.decides in
     committed it.cas it.stage told_by.0 refl refl refl refl told_by.2
-    (inl ((body, other, (is, told)),
-    subst (λ l. Once (λ n earlier. (n.answer.place ≡ place) × ReadsEntry it.stage.atr it.stage.attempt told_by.0 n
-    × Once (λ k _. (old : Option Json) × ReadsDoc d it.cas old (Some it.stage) k) earlier) l) (sym was.mine_is)
-    (inl (was.place_is, told_by.1, shown_some d it left was.before was.shown))))
+    (inl (
+      (body, other, (is, told)),
+      subst (λ l. Once (λ n earlier. (n.answer.place ≡ place) × ReadsEntry it.stage.atr it.stage.attempt told_by.0 n
+          × Once (λ k _. (old : Option Json) × ReadsDoc d it.cas old (Some it.stage) k) earlier) l) (sym was.mine_is)
+          (inl (was.place_is, told_by.1, shown_some d it left was.before was.shown)),
+    ))
 confirmed_on d it true place left mine m body other is told was =
     dead it.cas it.stage refl refl refl
-    (inl (refl, (other, (is, told)),
-    subst (λ l. Once (λ n earlier. FindsNoEntry it.stage.atr it.stage.attempt n
-    × Once (λ k _. (old : Option Json) × ReadsDoc d it.cas old (Some it.stage) k) earlier) l) (sym was.mine_is)
-    (inl (was.decides, shown_some d it left was.before was.shown))))
+    (inl (
+      refl,
+      (other, (is, told)),
+      subst (λ l. Once (λ n earlier. FindsNoEntry it.stage.atr it.stage.attempt n
+          × Once (λ k _. (old : Option Json) × ReadsDoc d it.cas old (Some it.stage) k) earlier) l) (sym was.mine_is)
+          (inl (was.decides, shown_some d it left was.before was.shown)),
+    ))
 
 -- the call about the entry, as a change of hands asks for it
 settled : (it : Staged) (gone : Bool) (m : Made) → Decides it gone m

@@ -1,7 +1,5 @@
 -- What the calls of a read are, newest first, as far as it has come.
-use Rattle.std.specs.Prelude.{◌≡◌, ℕ, ◌+◌, ◌≤◌, Bool, true, false, List, [], ◌∷◌, length, Option, Some, None}
-use Rattle.cbt_json.specs.declared.value.Json.{Json}
-use Rattle.cbt_model.specs.declared.documents.Stage.{Stage}
+use Rattle.std.specs.Prelude.{◌≡◌, ℕ, ◌+◌, ◌≤◌, Bool, true, false, List, [], ◌∷◌, length, Some}
 use Rattle.cbt_model.specs.declared.entries.Entry.{Entry}
 use Rattle.cbt_model.specs.declared.entries.EntryState.TheVariants.{Committed}
 use Rattle.cbt_model.specs.declared.events.Made.{Made}

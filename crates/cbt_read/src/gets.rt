@@ -4,6 +4,7 @@ ghost use Rattle.std.specs.Option.{option_copied};
 ghost use Rattle.cbt_model.specs.Fitting.{fits, step_fits};
 ghost use Rattle.cbt_model.specs.declared.events.Made.{Made};
 ghost use Rattle.cbt_model.specs.declared.steps.Step.{Step};
+ghost use Rattle.cbt_book.specs.Calls.{MayGet};
 ghost use Rattle.cbt_book.specs.Licence.{MayTake};
 ghost use Rattle.cbt_book.specs.Numbers.{Identity};
 ghost use Rattle.cbt_read.specs.Phases.{after, calls_left, end_of, step_of};
@@ -30,6 +31,7 @@ impl Get {
     pub fn begin(doc: DocId) -> Get
         ensures begun { result ≡ record { doc = doc; phase = Phase.Begun } }
         ensures stands { StandsFor result [] }
+        ensures left { calls_left result ≡ 17 }
     {
         Get {
             doc,
@@ -41,6 +43,7 @@ impl Get {
     pub fn next(&self, alloc: Global) -> Result<Option<Step>, NoMemory>
         ensures step { IfOk result (λ step. step ≡ step_of self.now) }
         ensures fits { IfOk result (λ step. IfSome step (λ s. IsTrue (step_fits s))) }
+        ensures reads { (s : Step) → step_of self.now ≡ Some s → MayGet self.now.doc s }
         // Readings need no licence.
         ensures licensed { (who : Identity) (l : List Made) (s : Step) → step_of self.now ≡ Some s
             → MayTake who l s }
@@ -62,7 +65,8 @@ impl Get {
         requires asked { IsSome (step_of self.old) }
         requires fits { (s : Step) → step_of self.old ≡ Some s → IsTrue (fits s answer.reply) }
         ensures phase { self.new ≡ record self.old {
-            phase = after self.old.phase answer.place answer.reply } }
+          phase = after self.old.phase answer.place answer.reply;
+        } }
         ensures stands { (mine : List Made) (s : Step) → step_of self.old ≡ Some s
             → StandsFor self.old mine
             → StandsFor self.new (record { step = s; answer = answer } ∷ mine) }

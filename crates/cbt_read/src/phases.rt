@@ -7,8 +7,8 @@ use crate::readings::{GetEnd, Seen};
 use cbt_json::Json;
 use cbt_model::{Answer, EntryState, Reply, Stage};
 
-/// After so many changes of hands a read goes on; the next one ends it.
-pub const CHANGES: u8 = 7;
+// After so many changes of hands a read goes on; the next one ends it.
+const MOST_CHANGES: u8 = 7;
 
 /// A reading that showed the document staged.
 #[derive(Drop)]
@@ -45,17 +45,24 @@ pub enum Phase {
 }
 
 impl Phase {
-    /// The phase after this one, once the call that it asks for was answered. It takes no memory.
-    pub fn after(self, answer: Answer) -> Phase
+    // The phase after this one, once the call that it asks for was answered.
+    pub(crate) fn after(self, answer: Answer) -> Phase
         ensures { result ≡ after self answer.place answer.reply }
     {
-        let Answer { place, now: _now, reply } = answer;
+        let Answer {
+            place,
+            now: _now,
+            reply,
+        } = answer;
         match self {
-            Phase::Begun => after_reading(place, reply, Some(CHANGES)),
+            Phase::Begun => after_reading(place, reply, Some(MOST_CHANGES)),
             Phase::Asking { staged, left } => after_entry(staged, left, place, reply),
-            Phase::Again { staged, gone, place: asked, left } => {
-                after_second(staged, gone, asked, left, place, reply)
-            }
+            Phase::Again {
+                staged,
+                gone,
+                place: asked,
+                left,
+            } => { after_second(staged, gone, asked, left, place, reply) }
             Phase::Ended { end } => Phase::Ended { end },
         }
     }
@@ -66,7 +73,12 @@ impl Staged {
     fn uncommitted(self) -> Seen
         ensures { result ≡ uncommitted self }
     {
-        let Staged { cas, body, stage, place } = self;
+        let Staged {
+            cas,
+            body,
+            stage,
+            place,
+        } = self;
         Seen {
             value: body,
             cas: Some(cas),
@@ -80,8 +92,18 @@ impl Staged {
     fn committed(self, moment: u64) -> Seen
         ensures { result ≡ committed self moment }
     {
-        let Staged { cas, body: _body, stage, place: _place } = self;
-        let Stage { attempt, atr, kind: _kind, content } = stage;
+        let Staged {
+            cas,
+            body: _body,
+            stage,
+            place: _place,
+        } = self;
+        let Stage {
+            attempt,
+            atr,
+            kind: _kind,
+            content,
+        } = stage;
         Seen {
             value: content,
             cas: Some(cas),
@@ -91,11 +113,17 @@ impl Staged {
         }
     }
 
-    // The entry is not there, and never comes back: the body counts that the document still had afterwards.
+    // The entry is not there, and never comes back: the body counts that the document still had
+    // at this moment.
     fn dead(self, body: Option<Json>, moment: u64) -> Seen
         ensures { result ≡ dead self body moment }
     {
-        let Staged { cas, body: _body, stage, place: _place } = self;
+        let Staged {
+            cas,
+            body: _body,
+            stage,
+            place: _place,
+        } = self;
         Seen {
             value: body,
             cas: Some(cas),
@@ -114,7 +142,15 @@ fn after_reading(place: u64, reply: Reply, left: Option<u8>) -> Phase
     match reply {
         Reply::Doc { cas, body, stage } => match stage {
             None => found(body, Some(cas), place),
-            Some(stage) => ask(Staged { cas, body, stage, place }, left),
+            Some(stage) => ask(
+                Staged {
+                    cas,
+                    body,
+                    stage,
+                    place,
+                },
+                left,
+            ),
         },
         Reply::Absent => found(None, None, place),
         _ => failed(place),
@@ -137,17 +173,19 @@ fn ask(staged: Staged, left: Option<u8>) -> Phase
 fn after_entry(staged: Staged, left: u8, place: u64, reply: Reply) -> Phase
     ensures { result ≡ after_entry staged left place reply }
 {
-    match reply {
-        Reply::NoEntry => Phase::Again { staged, gone: true, place, left },
+    let gone = match reply {
+        Reply::NoEntry => true,
         Reply::Entry(entry) => match entry.state {
-            EntryState::Committed => Phase::Again { staged, gone: false, place, left },
-            EntryState::Pending | EntryState::Aborted => Phase::Ended {
-                end: GetEnd::Value {
-                    seen: staged.uncommitted(),
-                },
-            },
+            EntryState::Committed => false,
+            EntryState::Pending | EntryState::Aborted => return value(staged.uncommitted()),
         },
-        _ => failed(place),
+        _ => return failed(place),
+    };
+    Phase::Again {
+        staged,
+        gone,
+        place,
+        left,
     }
 }
 
@@ -157,14 +195,15 @@ fn after_second(staged: Staged, gone: bool, asked: u64, left: u8, place: u64, re
     ensures { result ≡ after_second staged gone asked left place reply }
 {
     match reply {
-        Reply::Doc { cas, body, stage: _stage } if cas == staged.cas => {
-            let seen = if gone {
-                staged.dead(body, place)
+        Reply::Doc {
+            cas,
+            body,
+            stage: _stage,
+        } if cas == staged.cas => {
+            if gone {
+                value(staged.dead(body, place))
             } else {
-                staged.committed(asked)
-            };
-            Phase::Ended {
-                end: GetEnd::Value { seen },
+                value(staged.committed(asked))
             }
         }
         reply => after_reading(place, reply, one_fewer(left)),
@@ -177,21 +216,25 @@ fn one_fewer(left: u8) -> Option<u8>
     left.checked_sub(1)
 }
 
-// A reading without a staging.
-fn found(value: Option<Json>, cas: Option<u64>, place: u64) -> Phase
-    ensures { result ≡ found value cas place }
+fn value(seen: Seen) -> Phase
+    ensures { result ≡ Phase.Ended (GetEnd.Value seen) }
 {
     Phase::Ended {
-        end: GetEnd::Value {
-            seen: Seen {
-                value,
-                cas,
-                by: None,
-                gone: false,
-                moment: place,
-            },
-        },
+        end: GetEnd::Value { seen },
     }
+}
+
+// A reading without a staging.
+fn found(body: Option<Json>, cas: Option<u64>, place: u64) -> Phase
+    ensures { result ≡ found body cas place }
+{
+    value(Seen {
+        value: body,
+        cas,
+        by: None,
+        gone: false,
+        moment: place,
+    })
 }
 
 fn failed(place: u64) -> Phase

@@ -22,15 +22,11 @@ pub struct Seen {
 /// How a read ended.
 #[derive(Drop)]
 pub enum GetEnd {
-    Value {
-        seen: Seen,
-    },
+    Value { seen: Seen },
     /// The document changed hands at each of nine readings.
     Contended,
     /// The call at this place failed.
-    CallFailed {
-        place: u64,
-    },
+    CallFailed { place: u64 },
 }
 
 impl Duplicate for Seen {
