@@ -25,8 +25,8 @@ pub struct Staged {
 pub enum Phase {
     /// It has made no call.
     Begun,
-    /// A reading showed the document staged: the entry of that attempt is to be read. So many further
-    /// changes of hands are `left`.
+    /// A reading showed the document staged: the entry of that attempt is to be read. After so many
+    /// further changes of hands as are `left` it goes on.
     Asking {
         staged: Staged,
         left: u8,
@@ -153,6 +153,7 @@ fn after_reading(place: u64, reply: Reply, left: Option<u8>) -> Phase
             ),
         },
         Reply::Absent => found(None, None, place),
+        // Of the answers that fit only `Failed` is left.
         _ => failed(place),
     }
 }
@@ -179,6 +180,7 @@ fn after_entry(staged: Staged, left: u8, place: u64, reply: Reply) -> Phase
             EntryState::Committed => false,
             EntryState::Pending | EntryState::Aborted => return value(staged.uncommitted()),
         },
+        // Of the answers that fit only `Failed` is left.
         _ => return failed(place),
     };
     Phase::Again {
@@ -210,12 +212,14 @@ fn after_second(staged: Staged, gone: bool, asked: u64, left: u8, place: u64, re
     }
 }
 
+// A change of hands less, where one is left.
 fn one_fewer(left: u8) -> Option<u8>
     ensures { result ≡ one_fewer left }
 {
     left.checked_sub(1)
 }
 
+// The read has ended with this.
 fn value(seen: Seen) -> Phase
     ensures { result ≡ Phase.Ended (GetEnd.Value seen) }
 {
@@ -237,6 +241,7 @@ fn found(body: Option<Json>, cas: Option<u64>, place: u64) -> Phase
     })
 }
 
+// The call at this place failed.
 fn failed(place: u64) -> Phase
     ensures { result ≡ failed place }
 {
