@@ -1,0 +1,4 @@
+pub mod OpenReads
+pub mod Phases
+pub mod Readings
+pub mod Standing
