@@ -19,8 +19,8 @@ use Rattle.cbt_book.specs.Outcomes.{is_refusal}
 use Rattle.cbt_book.specs.OwnLists.{Once, Kept}
 use Rattle.cbt_book.specs.Shown.{StagesAt, ShowsStaged, AddsEntry, aborts}
 use Rattle.cbt_book.specs.Shown as shown
-use Rattle.cbt_attempt.specs.Notes.{stage_of, NotesWrites, NotesAll, HasWritten, IsQuiet}
-use Rattle.cbt_attempt.specs.OwnWrites.{Notes, NamesByKind}
+use Rattle.cbt_attempt.specs.Notes.{stage_of, NotesWrites, NotesAll, HasWritten, IsNoStaging, IsQuiet}
+use Rattle.cbt_attempt.specs.OwnWrites.{NamesByKind, SetsNote}
 use Rattle.cbt_attempt.specs.declared.own.Own.{Own}
 
 some_same : {X : Type 0} {x y : X} → Some x ≡ Some y → x ≡ y
@@ -88,6 +88,9 @@ module _ (a : ℕ) where
   quiet_writes m d l quiet (licence.stages k it) = subst (λ s. IsQuiet a s) it.2 quiet it.3
   quiet_writes m d l quiet (licence.unsticks_own x is was) = subst (λ s. IsQuiet a s) is quiet
 
+  no_staging : (m : Made) (k : OpKind) (d : List ℕ) → IsNoStaging a m.step → ¬ StagesFor a k d m
+  no_staging m k d none it = subst (λ s. IsNoStaging a s) it.2 none it.3
+
   -- what a staging writes for the attempt
   stages_here : (d q : List ℕ) (e : Expect) (stage : Stage) (k : OpKind) (m : Made) → m.step ≡ step.Stage d e stage → StagesFor a k q m → (q ≡ d) × (stage.kind ≡ k)
   stages_here d q e stage k m is it =
@@ -154,8 +157,8 @@ module _ (a r : ℕ) (own : List ℕ → Option Own) (l : List Made) where
       fine = λ once. ⊎_elim (λ here. inl here) (λ later. inr (λ vain. none vain.0.0 vain.0.1, notes.fine later)) once;
     }
 
-    pub writes_quiet : IsQuiet a m.step → NotesWrites a r own l → NotesWrites a r own (m ∷ l)
-    writes_quiet quiet notes = writes_kept (λ d it. quiet_writes a m d l quiet (licence.stages it.0.0 it.0.1)) notes
+    pub writes_unstaged : IsNoStaging a m.step → NotesWrites a r own l → NotesWrites a r own (m ∷ l)
+    writes_unstaged none notes = writes_kept (λ d it. no_staging a m it.0.0 d none it.0.1) notes
 
     pub all_quiet : IsQuiet a m.step → NotesAll a r own l → NotesAll a r own (m ∷ l)
     all_quiet quiet notes = all_kept (λ d. quiet_writes a m d l quiet) notes
@@ -166,7 +169,7 @@ module _ (a r : ℕ) (own : List ℕ → Option Own) (l : List Made) where
     pub writes_refused : is_refusal m.answer.reply ≡ true → NotesWrites a r own l → NotesWrites a r own (m ∷ l)
     writes_refused refused notes = writes_kept (λ d. refused_stages a d m refused) notes
 
-    module _ (new : List ℕ → Option Own) (d : List ℕ) (v : Option Own) (noted : Notes own new d v) where
+    module _ (new : List ℕ → Option Own) (d : List ℕ) (v : Option Own) (noted : SetsNote own new d v) where
       -- what is noted of the document itself, and of another
       here_is : (q : List ℕ) (w : Own) → q ≡ d → new q ≡ Some w → v ≡ Some w
       here_is q w is at = sym noted.here ∙ sym (ap new is) ∙ at
@@ -212,7 +215,7 @@ module _ (a r : ℕ) (own : List ℕ → Option Own) (l : List Made) where
               ⊎_elim (λ here. absurd (others q apart (licence.stages k here)))
               (λ later. let it = notes.only k q later.1 in (it.0, noted.others q apart ∙ it.1, it.2)) kept
 
-    module _ (new : List ℕ → Option Own) (d : List ℕ) (e : Expect) (w : Own) (noted : Notes own new d (Some w)) where
+    module _ (new : List ℕ → Option Own) (d : List ℕ) (e : Expect) (w : Own) (noted : SetsNote own new d (Some w)) where
       -- a staging took effect, and is the own write with its CAS
       stands_so : (x : ℕ) → m.step ≡ step.Stage d e (stage_of a r w) → m.answer.reply ≡ reply.Done x → w.cas ≡ Some x
           → (o : Own) (y : ℕ) → Some w ≡ Some o → o.cas ≡ Some y → StagesAt d y (stage_of a r o) m
@@ -232,19 +235,20 @@ module _ (a r : ℕ) (own : List ℕ → Option Own) (l : List Made) where
           (λ later. absurd (later.0 (licence.stages w.kind (e, stage_of a r w, is, refl, refl)))) kept)
           (λ q apart it. apart (stage_writes a d q e (stage_of a r w) m l is it)) (ap is_done answer) notes
 
+    module _ (new : List ℕ → Option Own) (d : List ℕ) (w : Own) (noted : SetsNote own new d (Some w)) where
       -- nothing is known of what a failed call did
       unknown : w.cas ≡ None → (o : Own) (x : ℕ) → Some w ≡ Some o → o.cas ≡ Some x → StagesAt d x (stage_of a r o) m
       unknown none o x same cas = absurd (none-some x (sym none ∙ ap (λ (u : Own). u.cas) (some_same same) ∙ cas))
 
-      pub writes_failed : (stage : Stage) → m.step ≡ step.Stage d e stage → w.cas ≡ None → NotesWrites a r own l → NotesWrites a r new (m ∷ l)
-      writes_failed stage is none notes =
+      pub writes_failed : (e : Expect) (stage : Stage) → m.step ≡ step.Stage d e stage → w.cas ≡ None → NotesWrites a r own l → NotesWrites a r new (m ∷ l)
+      writes_failed e stage is none notes =
           writes_set new d (Some w) noted (unknown none) (λ q apart it. apart (stages_here a d q e stage it.0.0 m is it.0.1).0) (λ kept. (w, refl)) notes
 
       pub writes_unstick_failed : (x : ℕ) → m.step ≡ step.Unstick d x → w.cas ≡ None → NotesWrites a r own l → NotesWrites a r new (m ∷ l)
       writes_unstick_failed x is none notes =
           writes_set new d (Some w) noted (unknown none) (λ q apart it. unstick_stages a d q x it.0.0 m is it.0.1) (λ kept. (w, refl)) notes
 
-    module _ (new : List ℕ → Option Own) (d : List ℕ) (x : ℕ) (is : m.step ≡ step.Unstick d x) (done : is_done m.answer.reply ≡ true) (noted : Notes own new d None) where
+    module _ (new : List ℕ → Option Own) (d : List ℕ) (x : ℕ) (is : m.step ≡ step.Unstick d x) (done : is_done m.answer.reply ≡ true) (noted : SetsNote own new d None) where
       -- an own write was taken back
       pub writes_taken_back : NotesWrites a r own l → NotesWrites a r new (m ∷ l)
       writes_taken_back notes =

@@ -34,8 +34,12 @@ pub record NotesAll (a r : ℕ) (own : List ℕ → Option Own) (l : List Made) 
 abbrev pub HasWritten : ℕ → List Made → Type 0
 HasWritten a l = Once (λ m past. (d : List ℕ) × WritesFor a d m past) l
 
+-- a step that stages nothing for the attempt
+abbrev pub IsNoStaging : ℕ → Step → Type 0
+IsNoStaging a (step.Stage d e stage) = stage.attempt ≢ a
+IsNoStaging a _ = Unit {0}
+
 -- a step that neither stages for the attempt nor takes a staging off
 abbrev pub IsQuiet : ℕ → Step → Type 0
-IsQuiet a (step.Stage d e stage) = stage.attempt ≢ a
 IsQuiet a (step.Unstick d x) = ⊥
-IsQuiet a _ = Unit {0}
+IsQuiet a s = IsNoStaging a s

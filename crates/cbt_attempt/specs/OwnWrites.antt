@@ -23,7 +23,7 @@ module _ {V : Type 0} where
   without_noted notes d = remove_entry (bytes_eq d) notes
 
   -- what is noted of one document became this, and of each other it stays
-  pub record Notes (old new : List ℕ → Option V) (d : List ℕ) (v : Option V) : Type 0 where
+  pub record SetsNote (old new : List ℕ → Option V) (d : List ℕ) (v : Option V) : Type 0 where
     pub here : new d ≡ v
     pub others : (q : List ℕ) → q ≢ d → new q ≡ old q
 

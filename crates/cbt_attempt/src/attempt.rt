@@ -1,7 +1,7 @@
 ghost use Rattle.std.specs.Prelude.{◌≡◌, [], None, Some, slice_get, IfOk, OnOk, OnErr};
 ghost use Rattle.std.specs.Option.{option_copied, option_map};
 ghost use Rattle.std.specs.Map.Iter.{deref_pair};
-ghost use Rattle.cbt_attempt.specs.OwnWrites.{noted, with_noted, without_noted, lists_of, Notes, NamesByKind};
+ghost use Rattle.cbt_attempt.specs.OwnWrites.{noted, with_noted, without_noted, lists_of, NamesByKind, SetsNote};
 
 use crate::ordered::Ordered;
 use crate::own::Own;
@@ -65,7 +65,7 @@ impl Attempt {
         self.sent
     }
 
-    /// The own write of a document.
+    /// The own write of a document. It takes no memory, nor does any other look-up.
     pub fn own(&self, doc: &DocId) -> Option<&Own>
         ensures { option_copied result ≡ noted self.now.writes doc.now }
     {
@@ -86,37 +86,38 @@ impl Attempt {
         self.seen.get(doc)
     }
 
-    /// Notes that the entry was sent to this transaction record.
+    /// Notes that the entry was sent to this transaction record. It takes no memory.
     pub fn note_sent(&mut self, atr: u16)
         ensures { self.new ≡ record self.old { sent = Some atr } }
     {
         self.sent = Some(atr);
     }
 
-    /// Notes the last reading of a document.
+    /// Notes the last reading of a document. Where there is no memory for it, nothing is changed.
     pub fn note_read(&mut self, doc: DocId, seen: Seen) -> Result<(), NoMemory>
         ensures ok { OnOk result (self.new ≡ record self.old { seen = with_noted self.old.seen doc seen }) }
-        ensures noted { OnOk result (Notes (noted self.old.seen) (noted self.new.seen) doc (Some seen)) }
+        ensures noted { OnOk result (SetsNote (noted self.old.seen) (noted self.new.seen) doc (Some seen)) }
         ensures err { OnErr result (self.new ≡ self.old) }
     {
         self.seen.insert(doc, seen)
     }
 
-    /// Notes the own write of a document. A new one goes last, and an old one keeps its place.
+    /// Notes the own write of a document. A new one goes last, and an old one keeps its place. Where
+    /// there is no memory for it, nothing is changed.
     pub fn note_staged(&mut self, doc: DocId, own: Own) -> Result<(), NoMemory>
         ensures ok { OnOk result (self.new ≡ record self.old { writes = with_noted self.old.writes doc own }) }
-        ensures noted { OnOk result (Notes (noted self.old.writes) (noted self.new.writes) doc (Some own)) }
+        ensures noted { OnOk result (SetsNote (noted self.old.writes) (noted self.new.writes) doc (Some own)) }
         ensures err { OnErr result (self.new ≡ self.old) }
     {
         self.writes.insert(doc, own)
     }
 
     /// Notes that the own write of a document was taken back: it and the last reading go away, and the
-    /// own writes behind it close up.
+    /// own writes behind it close up. It takes no memory.
     pub fn note_unstaged(&mut self, doc: &DocId)
         ensures gone { self.new ≡ record self.old { writes = without_noted self.old.writes doc.now; seen = without_noted self.old.seen doc.now } }
-        ensures unwritten { Notes (noted self.old.writes) (noted self.new.writes) doc.now None }
-        ensures unread { Notes (noted self.old.seen) (noted self.new.seen) doc.now None }
+        ensures unwritten { SetsNote (noted self.old.writes) (noted self.new.writes) doc.now None }
+        ensures unread { SetsNote (noted self.old.seen) (noted self.new.seen) doc.now None }
     {
         self.writes.remove(doc);
         self.seen.remove(doc);

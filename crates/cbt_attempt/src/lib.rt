@@ -3,8 +3,12 @@
 #![tactic(auto)]
 
 mod attempt;
+mod laws;
 mod ordered;
 mod own;
 
 pub use attempt::Attempt;
+pub use laws::{
+    may_abort, may_commit, notes_begin, notes_follow_stagings, notes_follow_unsticks, notes_stay,
+};
 pub use own::Own;
