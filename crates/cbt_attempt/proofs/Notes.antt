@@ -19,7 +19,7 @@ use Rattle.cbt_book.specs.Outcomes.{is_refusal}
 use Rattle.cbt_book.specs.OwnLists.{Once, Kept}
 use Rattle.cbt_book.specs.Shown.{StagesAt, ShowsStaged, AddsEntry, aborts}
 use Rattle.cbt_book.specs.Shown as shown
-use Rattle.cbt_attempt.specs.Notes.{stage_of, NotesWrites, NotesAll, HasWritten, IsNoStaging, IsQuiet}
+use Rattle.cbt_attempt.specs.Notes.{stage_of, NotesWrites, NotesAll, HasStaged, IsNoStaging, IsQuiet}
 use Rattle.cbt_attempt.specs.OwnWrites.{NamesByKind, SetsNote}
 use Rattle.cbt_attempt.specs.declared.own.Own.{Own}
 
@@ -37,12 +37,6 @@ kept_once P U Q (m ∷ l) weaker kept = ⊎_elim (λ here. inl (weaker m l here)
 kept_weaker : (P Q U : Made → List Made → Type 0) (l : List Made) → ((m : Made) (past : List Made) → P m past → Q m past) → Kept P U l → Kept Q U l
 kept_weaker P Q U [] weaker kept = absurd kept
 kept_weaker P Q U (m ∷ l) weaker kept = ⊎_elim (λ here. inl (weaker m l here)) (λ later. inr (later.0, kept_weaker P Q U l weaker later.1)) kept
-
--- what was so of a step, where nothing undoes it
-once_kept : (P U W : Made → List Made → Type 0) (l : List Made) → ((m : Made) (past : List Made) → U m past → W m past) → ¬ Once W l → Once P l → Kept P U l
-once_kept P U W [] weaker none once = absurd once
-once_kept P U W (m ∷ l) weaker none once =
-    ⊎_elim (λ here. inl here) (λ later. inr (λ undone. none (inl (weaker m l undone)), once_kept P U W l weaker (λ it. none (inr it)) later)) once
 
 -- documents are told apart
 data Which (d q : List ℕ) : Type 0 where
@@ -124,21 +118,25 @@ abbrev TakenOff : List ℕ → Made → Type 0
 TakenOff d m = (x : ℕ) × (m.step ≡ step.Unstick d x) × (is_done m.answer.reply ≡ true)
 
 module _ (a r : ℕ) (own : List ℕ → Option Own) (l : List Made) where
-  -- nothing is noted, and nothing was written
-  pub writes_begin : ((d : List ℕ) → own d ≡ None) → ¬ HasWritten a l → NotesWrites a r own l
-  writes_begin none unwritten = record {
+  -- nothing is noted, and nothing was staged
+  pub writes_begin : ((d : List ℕ) → own d ≡ None) → ¬ HasStaged a l → NotesWrites a r own l
+  writes_begin none unstaged = record {
     staged = λ d w x at cas. absurd (none-some w (sym (none d) ∙ at));
-    listed = λ d kept. absurd (unwritten (kept_once (λ m _. MayHaveStaged a d m) (λ m _. TakenOff d m) (λ m past. (q : List ℕ) × WritesFor a q m past) l
-        (λ m past it. (d, licence.stages it.0.0 it.0.1)) kept));
+    listed = λ d kept. absurd (unstaged (kept_once (λ m _. MayHaveStaged a d m) (λ m _. TakenOff d m) (λ m _. (k : OpKind) × (q : List ℕ) × StagesFor a k q m) l
+        (λ m past it. (it.0.0, d, it.0.1)) kept));
   }
 
-  pub all_begin : ((d : List ℕ) → own d ≡ None) → ¬ HasWritten a l → NotesAll a r own l
-  all_begin none unwritten = record {
+  -- no last write of a document is a staging
+  none_last : ¬ HasStaged a l → (k : OpKind) (d : List ℕ) → ¬ Kept (λ m _. StagesFor a k d m) (WritesFor a d) l
+  none_last unstaged k d kept =
+      unstaged (kept_once (λ m _. StagesFor a k d m) (WritesFor a d) (λ m _. (j : OpKind) × (q : List ℕ) × StagesFor a j q m) l (λ m past it. (k, d, it)) kept)
+
+  pub all_begin : ((d : List ℕ) → own d ≡ None) → ¬ HasStaged a l → ¬ Once (λ m _. AddsEntry r a m) l → NotesAll a r own l
+  all_begin none unstaged unentered = record {
     known = λ d w at. absurd (none-some w (sym (none d) ∙ at));
     last = λ d w x at cas. absurd (none-some w (sym (none d) ∙ at));
-    only = λ k d kept. absurd (unwritten (kept_once (λ m _. StagesFor a k d m) (WritesFor a d) (λ m past. (q : List ℕ) × WritesFor a q m past) l
-        (λ m past it. (d, licence.stages k it)) kept));
-    fine = λ once. once_kept (λ m _. AddsEntry r a m) (WritesInVain a) (λ m past. (q : List ℕ) × WritesFor a q m past) l (λ m past vain. vain.0) unwritten once;
+    only = λ k d kept. absurd (none_last unstaged k d kept);
+    fine = λ once. absurd (unentered once);
   }
 
   module _ (m : Made) where
@@ -163,8 +161,14 @@ module _ (a r : ℕ) (own : List ℕ → Option Own) (l : List Made) where
     pub all_quiet : IsQuiet a m.step → NotesAll a r own l → NotesAll a r own (m ∷ l)
     all_quiet quiet notes = all_kept (λ d. quiet_writes a m d l quiet) notes
 
-    pub all_entered : AddsEntry r a m → ((d : List ℕ) → own d ≡ None) → ¬ HasWritten a l → NotesAll a r own (m ∷ l)
-    all_entered entered none unwritten = all_quiet (quiet_add a r m entered) (all_begin none unwritten)
+    pub all_entered : AddsEntry r a m → ((d : List ℕ) → own d ≡ None) → ¬ HasStaged a l → NotesAll a r own (m ∷ l)
+    all_entered entered none unstaged = record {
+      known = λ d w at. absurd (none-some w (sym (none d) ∙ at));
+      last = λ d w x at cas. absurd (none-some w (sym (none d) ∙ at));
+      only = λ k d kept.
+          ⊎_elim (λ here. absurd (quiet_writes a m d l (quiet_add a r m entered) (licence.stages k here))) (λ later. absurd (none_last unstaged k d later.1)) kept;
+      fine = λ once. inl entered;
+    }
 
     pub writes_refused : is_refusal m.answer.reply ≡ true → NotesWrites a r own l → NotesWrites a r own (m ∷ l)
     writes_refused refused notes = writes_kept (λ d. refused_stages a d m refused) notes

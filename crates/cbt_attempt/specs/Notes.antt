@@ -30,9 +30,9 @@ pub record NotesAll (a r : ℕ) (own : List ℕ → Option Own) (l : List Made) 
   pub only : (k : OpKind) (d : List ℕ) → Kept (λ m _. StagesFor a k d m) (WritesFor a d) l → (w : Own) × (own d ≡ Some w) × (w.kind ≡ k)
   pub fine : Once (λ m _. AddsEntry r a m) l → Kept (λ m _. AddsEntry r a m) (WritesInVain a) l
 
--- a call of this list stages for the attempt, or takes off what it staged
-abbrev pub HasWritten : ℕ → List Made → Type 0
-HasWritten a l = Once (λ m past. (d : List ℕ) × WritesFor a d m past) l
+-- a call of this list stages for the attempt
+abbrev pub HasStaged : ℕ → List Made → Type 0
+HasStaged a l = Once (λ m _. (k : OpKind) × (d : List ℕ) × StagesFor a k d m) l
 
 -- a step that stages nothing for the attempt
 abbrev pub IsNoStaging : ℕ → Step → Type 0

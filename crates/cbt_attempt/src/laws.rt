@@ -17,18 +17,19 @@ ghost use Rattle.cbt_book.specs.Licence.{CommitsUnsettled, MayAbort, MayCommit};
 ghost use Rattle.cbt_book.specs.Outcomes.{is_refusal};
 ghost use Rattle.cbt_book.specs.OwnLists.{Once};
 ghost use Rattle.cbt_book.specs.Shown.{aborts, AddsEntry};
-ghost use Rattle.cbt_attempt.specs.Notes.{stage_of, HasWritten, IsNoStaging, IsQuiet, NotesAll, NotesWrites};
+ghost use Rattle.cbt_attempt.specs.Notes.{stage_of, HasStaged, IsNoStaging, IsQuiet, NotesAll, NotesWrites};
 ghost use Rattle.cbt_attempt.specs.OwnWrites.{NamesByKind, SetsNote};
 ghost use Rattle.cbt_attempt.specs.declared.own.Own.{Own};
 
-/// An attempt that has noted nothing and written nothing has noted all, also once its entry is there.
+/// An attempt that has noted nothing, for which nothing was staged and whose entry was not added, has
+/// noted all, and so it has once its entry is there.
 pub fn notes_begin()
-    ensures writes { (a r : ℕ) (own : List ℕ → Option Own) (l : List Made) → ((d : List ℕ) → own d ≡ None) → ¬ HasWritten a l
+    ensures writes { (a r : ℕ) (own : List ℕ → Option Own) (l : List Made) → ((d : List ℕ) → own d ≡ None) → ¬ HasStaged a l
         → NotesWrites a r own l }
-    ensures all { (a r : ℕ) (own : List ℕ → Option Own) (l : List Made) → ((d : List ℕ) → own d ≡ None) → ¬ HasWritten a l
-        → NotesAll a r own l }
+    ensures all { (a r : ℕ) (own : List ℕ → Option Own) (l : List Made) → ((d : List ℕ) → own d ≡ None) → ¬ HasStaged a l
+        → ¬ Once (λ m _. AddsEntry r a m) l → NotesAll a r own l }
     ensures entered { (a r : ℕ) (own : List ℕ → Option Own) (l : List Made) (m : Made) → AddsEntry r a m → ((d : List ℕ) → own d ≡ None)
-        → ¬ HasWritten a l → NotesAll a r own (m ∷ l) }
+        → ¬ HasStaged a l → NotesAll a r own (m ∷ l) }
 {}
 
 /// What is noted stays right over a call that writes nothing for the attempt, as one that adds its
