@@ -49,7 +49,8 @@ module _ (k : OpKind) (d : List ℕ) where
   head_noted w writes true true is kind apart ih listed = (w.1, ap (λ b. cond b (Some w.1) (noted writes d)) is, kind_same k w.1.kind kind)
   head_noted w writes true false is kind apart ih listed =
       let it = ih listed in
-      absurd (none-some it.0 (sym (unnoted d writes (subst (λ q. AllByRecursion (λ y. bytes_eq q y ≡ false) (keys_of writes)) (sym ((bytes_eq-Decides d w.0).0 is)) apart)) ∙ it.1))
+      let later = subst (λ q. AllByRecursion (λ y. bytes_eq q y ≡ false) (keys_of writes)) (sym ((bytes_eq-Decides d w.0).0 is)) apart in
+      absurd (none-some it.0 (sym (unnoted d writes later) ∙ it.1))
   head_noted w writes false true is kind apart ih listed =
       ⊎_elim (λ (same : d ≡ w.0). absurd (true-false (sym (ap (λ q. bytes_eq d q) same) ∙ bytes_eq-itself d) is))
       (λ (later : In d (docs_of k writes)). let it = ih later in (it.0, ap (λ b. cond b (Some w.1) (noted writes d)) is ∙ it.1, it.2)) listed
@@ -64,11 +65,13 @@ module _ (k : OpKind) (d : List ℕ) where
   listed_noted (w ∷ writes) distinct listed =
       head_noted w writes (bytes_eq d w.0) (is_kind k w.1.kind) refl refl distinct.0 (λ l. listed_noted writes distinct.1 l) listed
 
-  head_listed : (w : List ℕ × Own) (writes : List (List ℕ × Own)) (here : Bool) → bytes_eq d w.0 ≡ here → (it : Own) → cond here (Some w.1) (noted writes d) ≡ Some it → it.kind ≡ k
+  head_listed : (w : List ℕ × Own) (writes : List (List ℕ × Own)) (here : Bool) → bytes_eq d w.0 ≡ here → (it : Own)
+      → cond here (Some w.1) (noted writes d) ≡ Some it → it.kind ≡ k
       → (noted writes d ≡ Some it → In d (docs_of k writes)) → In d (docs_of k (w ∷ writes))
   head_listed w writes true is it first kind ih =
       let same : w.1.kind ≡ k = ap (λ (o : Own). o.kind) (some_same first) ∙ kind in
-      subst (λ b. In d (cond b (w.0 ∷ docs_of k writes) (docs_of k writes))) (sym (ap (λ j. is_kind k j) same ∙ is_kind-itself k)) (inl ((bytes_eq-Decides d w.0).0 is))
+      subst (λ b. In d (cond b (w.0 ∷ docs_of k writes) (docs_of k writes))) (sym (ap (λ j. is_kind k j) same ∙ is_kind-itself k))
+      (inl ((bytes_eq-Decides d w.0).0 is))
   head_listed w writes false is it first kind ih = later (is_kind k w.1.kind) (ih first)
     where
       later : (b : Bool) → In d (docs_of k writes) → In d (cond b (w.0 ∷ docs_of k writes) (docs_of k writes))

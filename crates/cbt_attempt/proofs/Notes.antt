@@ -1,5 +1,4 @@
--- What an attempt notes of its own writes holds on its client's own list, whatever the client calls next, and licenses a commit and
--- an abort.
+-- What an attempt notes of its own writes goes on holding as its client's own list grows, and licenses a commit and an abort.
 use Rattle.std.proofs.Common.{◌≡◌, ◌≢◌, ℕ, Bool, true, false, ◌⊎◌, inl, inr, ⊎_elim, List, [], ◌∷◌, Option, Some, None, refl, ap, sym, ◌∙◌, subst}
 use Rattle.std.proofs.lemmas.Option.{none-some}
 use Rattle.std.proofs.lemmas.Slice.Eq.{bytes_eq-Decides}
@@ -60,14 +59,8 @@ stage_stage d q e f s t both = cc
 stage_unstick : (d q : List ℕ) (e : Expect) (s : Stage) (x : ℕ) → step.Stage d e s ≡ step.Unstick q x → ⊥
 stage_unstick d q e s x both = cc
 
-stage_add : (d : List ℕ) (e : Expect) (s : Stage) (r a exp : ℕ) → step.Stage d e s ≡ step.AddEntry r a exp → ⊥
-stage_add d e s r a exp both = cc
-
 unstick_doc : (d q : List ℕ) (x y : ℕ) → step.Unstick d x ≡ step.Unstick q y → q ≡ d
 unstick_doc d q x y both = cc
-
-unstick_add : (d : List ℕ) (x r a exp : ℕ) → step.Unstick d x ≡ step.AddEntry r a exp → ⊥
-unstick_add d x r a exp both = cc
 
 adds_step : (r a : ℕ) (m : Made) → AddsEntry r a m → (exp : ℕ) × (m.step ≡ step.AddEntry r a exp)
 adds_step r a m (shown.added exp c is answer) = (exp, is)
@@ -182,7 +175,8 @@ module _ (a r : ℕ) (own : List ℕ → Option Own) (l : List Made) where
           → (Kept (λ m _. MayHaveStaged a d m) (λ m _. TakenOff d m) (m ∷ l) → (w : Own) × (v ≡ Some w)) → NotesWrites a r own l → NotesWrites a r new (m ∷ l)
       writes_set staged others listed notes = record { staged = λ q w x at cas. stands q w x at cas (which d q); listed = λ q kept. names q kept (which d q) }
         where
-          stands : (q : List ℕ) (w : Own) (x : ℕ) → new q ≡ Some w → w.cas ≡ Some x → Which d q → Kept (λ m _. StagesAt q x (stage_of a r w) m) (λ m _. MayHaveStaged a q m) (m ∷ l)
+          stands : (q : List ℕ) (w : Own) (x : ℕ) → new q ≡ Some w → w.cas ≡ Some x → Which d q
+              → Kept (λ m _. StagesAt q x (stage_of a r w) m) (λ m _. MayHaveStaged a q m) (m ∷ l)
           stands q w x at cas (that_one is) = inl (subst (λ p. StagesAt p x (stage_of a r w) m) (sym is) (staged w x (here_is q w is at) cas))
           stands q w x at cas (another apart) = inr (others q apart, notes.staged q w x (sym (noted.others q apart) ∙ at) cas)
 
@@ -207,7 +201,8 @@ module _ (a r : ℕ) (own : List ℕ → Option Own) (l : List Made) where
           has_cas q w at (that_one is) = known w (here_is q w is at)
           has_cas q w at (another apart) = notes.known q w (sym (noted.others q apart) ∙ at)
 
-          stands : (q : List ℕ) (w : Own) (x : ℕ) → new q ≡ Some w → w.cas ≡ Some x → Which d q → Kept (λ m _. StagesAt q x (stage_of a r w) m) (WritesFor a q) (m ∷ l)
+          stands : (q : List ℕ) (w : Own) (x : ℕ) → new q ≡ Some w → w.cas ≡ Some x → Which d q
+              → Kept (λ m _. StagesAt q x (stage_of a r w) m) (WritesFor a q) (m ∷ l)
           stands q w x at cas (that_one is) = inl (subst (λ p. StagesAt p x (stage_of a r w) m) (sym is) (staged w x (here_is q w is at) cas))
           stands q w x at cas (another apart) = inr (others q apart, notes.last q w x (sym (noted.others q apart) ∙ at) cas)
 
@@ -228,11 +223,14 @@ module _ (a r : ℕ) (own : List ℕ → Option Own) (l : List Made) where
           let cas_is : x ≡ y = some_same (sym cas ∙ ap (λ (u : Own). u.cas) own_is ∙ its) in
           (e, is ∙ ap (λ u. step.Stage d e (stage_of a r u)) own_is, answer ∙ ap (λ z. reply.Done z) cas_is)
 
-      pub writes_staged : (x : ℕ) → m.step ≡ step.Stage d e (stage_of a r w) → m.answer.reply ≡ reply.Done x → w.cas ≡ Some x → NotesWrites a r own l → NotesWrites a r new (m ∷ l)
+      pub writes_staged : (x : ℕ) → m.step ≡ step.Stage d e (stage_of a r w) → m.answer.reply ≡ reply.Done x → w.cas ≡ Some x → NotesWrites a r own l
+          → NotesWrites a r new (m ∷ l)
       writes_staged x is answer cas notes =
-          writes_set new d (Some w) noted (stands_so x is answer cas) (λ q apart it. apart (stages_here a d q e (stage_of a r w) it.0.0 m is it.0.1).0) (λ kept. (w, refl)) notes
+          writes_set new d (Some w) noted (stands_so x is answer cas)
+          (λ q apart it. apart (stages_here a d q e (stage_of a r w) it.0.0 m is it.0.1).0) (λ kept. (w, refl)) notes
 
-      pub all_staged : (x : ℕ) → m.step ≡ step.Stage d e (stage_of a r w) → m.answer.reply ≡ reply.Done x → w.cas ≡ Some x → NotesAll a r own l → NotesAll a r new (m ∷ l)
+      pub all_staged : (x : ℕ) → m.step ≡ step.Stage d e (stage_of a r w) → m.answer.reply ≡ reply.Done x → w.cas ≡ Some x → NotesAll a r own l
+          → NotesAll a r new (m ∷ l)
       all_staged x is answer cas notes =
           all_set new d (Some w) noted (λ o same. (x, ap (λ (u : Own). u.cas) (sym (some_same same)) ∙ cas)) (stands_so x is answer cas)
           (λ k kept. ⊎_elim (λ here. (w, refl, (stages_here a d d e (stage_of a r w) k m is here).1))
@@ -252,7 +250,8 @@ module _ (a r : ℕ) (own : List ℕ → Option Own) (l : List Made) where
       writes_unstick_failed x is none notes =
           writes_set new d (Some w) noted (unknown none) (λ q apart it. unstick_stages a d q x it.0.0 m is it.0.1) (λ kept. (w, refl)) notes
 
-    module _ (new : List ℕ → Option Own) (d : List ℕ) (x : ℕ) (is : m.step ≡ step.Unstick d x) (done : is_done m.answer.reply ≡ true) (noted : SetsNote own new d None) where
+    module _ (new : List ℕ → Option Own) (d : List ℕ) (x : ℕ) (is : m.step ≡ step.Unstick d x) (done : is_done m.answer.reply ≡ true)
+        (noted : SetsNote own new d None) where
       -- an own write was taken back
       pub writes_taken_back : NotesWrites a r own l → NotesWrites a r new (m ∷ l)
       writes_taken_back notes =
