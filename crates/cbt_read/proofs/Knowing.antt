@@ -22,7 +22,7 @@ use Rattle.cbt_read.specs.Standing.{WasShown, Decides, WasDecided, EndsBy, Knows
 use Rattle.cbt_read.specs.declared.phases.Phase.{Phase}
 use Rattle.cbt_read.specs.declared.phases.Phase.TheVariants.{Begun, Asking, Again, Ended}
 use Rattle.cbt_read.specs.declared.phases.Staged.{Staged}
-use Rattle.cbt_read.specs.declared.readings.GetEnd.{GetEnd}
+use Rattle.cbt_read.specs.declared.ends.GetEnd.{GetEnd}
 
 pub some_same : {X : Type 0} {x y : X} → Some x ≡ Some y → x ≡ y
 some_same both = cc

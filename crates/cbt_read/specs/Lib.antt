@@ -1,4 +1,3 @@
 pub mod OpenReads
 pub mod Phases
-pub mod Readings
 pub mod Standing

@@ -7,13 +7,13 @@ use Rattle.cbt_model.specs.declared.steps.Reply.{Reply}
 use Rattle.cbt_model.specs.declared.steps.Reply.TheVariants as reply
 use Rattle.cbt_model.specs.declared.steps.Step.{Step}
 use Rattle.cbt_model.specs.declared.steps.Step.TheVariants as step
+use Rattle.cbt_book.specs.ReadAt.{Reading}
 use Rattle.cbt_read.specs.declared.gets.Get.{Get}
 use Rattle.cbt_read.specs.declared.phases.Phase.{Phase}
 use Rattle.cbt_read.specs.declared.phases.Phase.TheVariants.{Begun, Asking, Again, Ended}
 use Rattle.cbt_read.specs.declared.phases.Staged.{Staged}
-use Rattle.cbt_read.specs.declared.readings.GetEnd.{GetEnd}
-use Rattle.cbt_read.specs.declared.readings.GetEnd.TheVariants.{Value, Contended, CallFailed}
-use Rattle.cbt_read.specs.declared.readings.Seen.{Seen}
+use Rattle.cbt_read.specs.declared.ends.GetEnd.{GetEnd}
+use Rattle.cbt_read.specs.declared.ends.GetEnd.TheVariants.{Value, Contended, CallFailed}
 
 -- the call that a phase of a read of document d asks for
 abbrev pub step_for : List ℕ → Phase → Option Step
@@ -56,15 +56,15 @@ abbrev pub failed : ℕ → Phase
 failed place = Ended (CallFailed place)
 
 -- the body of a staged document, since the attempt was not committed
-abbrev pub uncommitted : Staged → Seen
+abbrev pub uncommitted : Staged → Reading
 uncommitted staged = record { value = staged.body; cas = Some staged.cas; by = Some (staged.stage.atr, staged.stage.attempt); gone = false; moment = staged.place }
 
 -- what was staged, since the attempt was committed at this moment
-abbrev pub committed : Staged → ℕ → Seen
+abbrev pub committed : Staged → ℕ → Reading
 committed staged moment = record { value = staged.stage.content; cas = Some staged.cas; by = Some (staged.stage.atr, staged.stage.attempt); gone = false; moment = moment }
 
 -- the body that a staged document still had at this moment, since the attempt was gone
-abbrev pub dead : Staged → Option Json → ℕ → Seen
+abbrev pub dead : Staged → Option Json → ℕ → Reading
 dead staged body moment = record { value = body; cas = Some staged.cas; by = Some (staged.stage.atr, staged.stage.attempt); gone = true; moment = moment }
 
 -- a change of hands less, where one is left

@@ -8,13 +8,12 @@ use Rattle.cbt_book.specs.Outcomes.{ChangesHands, EndsFailed, IsContended}
 use Rattle.cbt_book.specs.ReadAt.{IsReadAt}
 use Rattle.cbt_book.specs.Shown.{ReadsDoc, ReadsEntry, FindsNoEntry}
 use Rattle.cbt_read.specs.Phases.{calls_left}
-use Rattle.cbt_read.specs.Readings.{reading_of}
 use Rattle.cbt_read.specs.declared.gets.Get.{Get}
 use Rattle.cbt_read.specs.declared.phases.Phase.{Phase}
 use Rattle.cbt_read.specs.declared.phases.Phase.TheVariants.{Begun, Asking, Again, Ended}
 use Rattle.cbt_read.specs.declared.phases.Staged.{Staged}
-use Rattle.cbt_read.specs.declared.readings.GetEnd.{GetEnd}
-use Rattle.cbt_read.specs.declared.readings.GetEnd.TheVariants.{Value, Contended, CallFailed}
+use Rattle.cbt_read.specs.declared.ends.GetEnd.{GetEnd}
+use Rattle.cbt_read.specs.declared.ends.GetEnd.TheVariants.{Value, Contended, CallFailed}
 
 -- the newest call showed the document staged so, which changed hands at each reading and may do so `left` times more
 pub record WasShown (d : List ℕ) (staged : Staged) (left : ℕ) (mine : List Made) : Type 0 where
@@ -43,7 +42,7 @@ pub record WasDecided (d : List ℕ) (staged : Staged) (gone : Bool) (place left
 
 -- a read of document d ended so by its calls
 abbrev pub EndsBy : List ℕ → GetEnd → List Made → Type 0
-EndsBy d (Value seen) mine = IsReadAt d (reading_of seen) mine
+EndsBy d (Value seen) mine = IsReadAt d seen mine
 EndsBy d Contended mine = IsContended d mine
 EndsBy d (CallFailed place) mine = EndsFailed place mine
 

@@ -10,8 +10,8 @@ ghost use Rattle.cbt_book.specs.Numbers.{Identity};
 ghost use Rattle.cbt_read.specs.Phases.{after, calls_left, end_of, step_of};
 ghost use Rattle.cbt_read.specs.Standing.{StandsFor};
 
+use crate::ends::GetEnd;
 use crate::phases::Phase;
-use crate::readings::GetEnd;
 use cbt_base::{DocId, Duplicate, NoMemory};
 use cbt_model::{Answer, Step};
 use std::alloc::Global;

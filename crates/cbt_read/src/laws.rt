@@ -5,21 +5,19 @@ ghost use Rattle.std.specs.Prelude.{◌≡◌, ◌≢◌, ℕ, ◌+◌, ◌≤�
 ghost use Rattle.cbt_model.specs.declared.events.Made.{Made};
 ghost use Rattle.cbt_book.specs.Calls.{GetCalls};
 ghost use Rattle.cbt_book.specs.Outcomes.{EndsFailed, IsContended};
-ghost use Rattle.cbt_book.specs.ReadAt.{IsReadAt};
+ghost use Rattle.cbt_book.specs.ReadAt.{IsReadAt, Reading};
 ghost use Rattle.cbt_read.specs.OpenReads.{LeavesOpen};
 ghost use Rattle.cbt_read.specs.Phases.{calls_left, end_of, step_of};
-ghost use Rattle.cbt_read.specs.Readings.{reading_of};
 ghost use Rattle.cbt_read.specs.Standing.{StandsFor};
 ghost use Rattle.cbt_read.specs.declared.gets.Get.{Get};
-ghost use Rattle.cbt_read.specs.declared.readings.Seen.{Seen};
 
-use crate::readings::GetEnd;
+use crate::ends::GetEnd;
 
 /// What a read has ended with is so by its calls: the document was read as it was seen, it changed hands
 /// at each of nine readings, or the newest call failed, at the place named.
 pub fn gets_end_right()
-    ensures value { (get : Get) (mine : List Made) (seen : Seen) → StandsFor get mine
-        → end_of get ≡ Some (GetEnd.Value seen) → IsReadAt get.doc (reading_of seen) mine }
+    ensures value { (get : Get) (mine : List Made) (seen : Reading) → StandsFor get mine
+        → end_of get ≡ Some (GetEnd.Value seen) → IsReadAt get.doc seen mine }
     ensures contended { (get : Get) (mine : List Made) → StandsFor get mine
         → end_of get ≡ Some GetEnd.Contended → IsContended get.doc mine }
     ensures failed { (get : Get) (mine : List Made) (place : ℕ) → StandsFor get mine

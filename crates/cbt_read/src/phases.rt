@@ -3,7 +3,8 @@
 ghost use Rattle.std.specs.Prelude.{◌≡◌};
 ghost use Rattle.cbt_read.specs.Phases.{after, after_entry, after_reading, after_second, ask, committed, dead, failed, found, one_fewer, uncommitted};
 
-use crate::readings::{GetEnd, Seen};
+use crate::ends::GetEnd;
+use cbt_book::Seen;
 use cbt_json::Json;
 use cbt_model::{Answer, EntryState, Reply, Stage};
 

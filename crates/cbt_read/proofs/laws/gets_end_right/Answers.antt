@@ -1,4 +1,4 @@
-use Rattle.cbt_read.specs.declared.readings.GetEnd.TheVariants.{Value}
+use Rattle.cbt_read.specs.declared.ends.GetEnd.TheVariants.{Value}
 use Rattle.cbt_read.proofs.Knowing.{ends_by}
 use Rattle.cbt_read.proofs.laws.gets_end_right.Goals as goal
 
