@@ -9,6 +9,11 @@ use cbt_report::report_of;
 use cbt_script::Script;
 use std::alloc::Global;
 
+/// The last stamp of an opening, and the most events, of the books that are written out.
+const LAST: u64 = 5;
+
+const MOST_EVENTS: usize = 3;
+
 /// The report of a copy of the book of this name.
 pub fn report(alloc: Global, name: &str) -> Result<String> {
     let book = match name {
@@ -28,7 +33,11 @@ fn script_of(name: &str) -> &'static [u8] {
     }
 }
 
+// Its clock and its history are small, as a report asks.
 fn written(alloc: Global, script: &Script, book: &Book) -> Result<String> {
+    if book.kept.opening.last > LAST || book.kept.history.len() > MOST_EVENTS {
+        return Ok("too large a book".to_string(alloc)?);
+    }
     let text = report_of(alloc, script, book)?;
     Ok(in_one_line(alloc, text.as_str())?)
 }
