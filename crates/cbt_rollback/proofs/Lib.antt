@@ -1,1 +1,4 @@
 pub mod Works
+pub mod Moving
+pub mod Bounds
+pub mod Ends

@@ -1,3 +1,4 @@
+pub mod Moves
 pub mod Phases
 pub mod Ready
 pub mod Standing
