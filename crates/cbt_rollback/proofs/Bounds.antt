@@ -1,7 +1,10 @@
 -- A rollback has fewer calls left after each answer.
 use Rattle.std.proofs.Common.{◌≡◌, true, ℕ, suc, zero, ◌+◌, ◌-◌, ◌*◌, ◌≤◌, ◌<◌, ⊎_elim, List, [], ◌∷◌, length, slice_get, Option, Some, None, refl, sym, ap, ◌∙◌, arith}
 use Rattle.std.proofs.lemmas.Option.{none-some, slice_get_within, slice_get_past, slice_get_cases}
+use Rattle.cbt_model.specs.Fitting.{fits}
+use Rattle.cbt_model.specs.declared.events.Answer.{Answer}
 use Rattle.cbt_model.specs.declared.events.Made.{Made}
+use Rattle.cbt_model.specs.declared.steps.Step.{Step}
 use Rattle.cbt_rollback.specs.Moves.{Moves, finds_no_entry, is_aborted, unsticks, finds_off, finds_staged, takes, drops, fails}
 use Rattle.cbt_rollback.specs.Phases.{Work, Task, going_step, taking_step, step_for, left_in, after}
 use Rattle.cbt_rollback.specs.Standing.{Runs, begun, goes_on}
@@ -71,3 +74,7 @@ asks_none t (Taking at x) asks = by (slice_get t.works at) refl asks
     by None past is = nothing (length t.works) (⊎_elim (λ it. absurd (none-some it.0 (sym past ∙ it.2))) (λ it. it.0) (slice_get_cases t.works at).1)
     by (Some w) here is = absurd (cc)
 asks_none t (Ended end) asks = refl
+
+-- a fitting answer to the call asked for leaves fewer
+pub fewer_after : (t : Task) (p : Phase) (s : Step) (answer : Answer) → step_for t p ≡ Some s → fits s answer.reply ≡ true → left_in t (after t p answer.place answer.reply) < left_in t p
+fewer_after t p s answer asked fit = fewer_left t (record { step = s; answer = answer }) p (after t p answer.place answer.reply) (moves t (record { step = s; answer = answer }) p asked fit)

@@ -2,3 +2,4 @@ pub mod Works
 pub mod Moving
 pub mod Bounds
 pub mod Ends
+pub mod Closes

@@ -72,21 +72,27 @@ one_place (u ∷ works) unique (suc i) (suc j) v w at_i at_j same =
 
 -- the own writes before a place were copied, each with the CAS that is noted of its document
 pub record CopiedUpTo (writes : List (List ℕ × Own)) (at : ℕ) (works : List Work) : Type 0 where
+  pub within : at ≤ length writes
+  pub few : length works ≤ at
   pub unique : IsDistinct bytes_eq (keys_of works)
   pub kept : (q : List ℕ) (c : Option ℕ) → lookup (bytes_eq q) works ≡ Some c → (v : Own) × (noted writes q ≡ Some v) × (v.cas ≡ c)
   pub has : (j : ℕ) (e : List ℕ × Own) → j < at → slice_get writes j ≡ Some e → (c : Option ℕ) × (lookup (bytes_eq e.0) works ≡ Some c)
 
 pub copied_none : (writes : List (List ℕ × Own)) (works : List Work) → works ≡ [] → IsDistinct bytes_eq (keys_of works) → CopiedUpTo writes 0 works
 copied_none writes works none unique = record {
+  within = omega arith;
+  few = subst (λ ws. length ws ≤ 0) (sym none) (omega arith);
   unique = unique;
   kept = λ q c found. absurd (none-some c (ap (λ ws. lookup (bytes_eq q) ws) (sym none) ∙ found));
   has = λ j e before found. absurd (omega arith);
 }
 
 pub copied_on : (writes : List (List ℕ × Own)) (at : ℕ) (old new : List Work) (e : List ℕ × Own) (c : Option ℕ) → slice_get writes at ≡ Some e → stamp_of (noted writes e.0) ≡ c
-    → ((q : List ℕ) → lookup (bytes_eq q) new ≡ cond (bytes_eq e.0 q) (Some c) (lookup (bytes_eq q) old)) → IsDistinct bytes_eq (keys_of new) → CopiedUpTo writes at old
+    → ((q : List ℕ) → lookup (bytes_eq q) new ≡ cond (bytes_eq e.0 q) (Some c) (lookup (bytes_eq q) old)) → IsDistinct bytes_eq (keys_of new) → length new ≤ length old + 1 → CopiedUpTo writes at old
     → CopiedUpTo writes (at + 1) new
-copied_on writes at old new e c found stamp updates unique copied = record {
+copied_on writes at old new e c found stamp updates unique longer copied = record {
+  within = let inside = slice_get_within writes at e found in omega arith;
+  few = let before = copied.few in omega arith;
   unique = unique;
   kept = λ q s is. kept_by q s (bytes_eq e.0 q) refl (sym (updates q) ∙ is);
   has = λ j f before is. has_by j f before is (bytes_eq e.0 f.0) refl;
@@ -138,3 +144,11 @@ copied_all writes at works past copied = record {
         let it = copied.has place.0 (place.1, v) (before place.0 (length writes) within beyond) place.2 in
         let at_key = place_from_lookup (bytes_eq place.1) works it.0 it.1 in
         (at_key.0, (at_key.1, it.0), at_key.2, sym (same_text place.1 at_key.1 at_key.3) ∙ sym (same_text d place.1 place.3))
+
+pub copied_few : (writes : List (List ℕ × Own)) (at : ℕ) (works : List Work) → CopiedUpTo writes at works → length works ≤ length writes
+copied_few writes at works copied = let few = copied.few in let within = copied.within in omega arith
+
+-- an insert makes a list longer by one at most
+pub grown : (b : Bool) (old new : ℕ) → new ≡ old + cond b 0 1 → new ≤ old + 1
+grown true old new is = omega arith
+grown false old new is = omega arith

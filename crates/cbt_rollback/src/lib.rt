@@ -3,8 +3,10 @@
 //! and ends.
 #![tactic(auto)]
 
+mod laws;
 mod phases;
 mod undos;
 
+pub use laws::{undos_close, undos_end_right, undos_stay_bounded};
 pub use phases::{Phase, UndoEnd};
 pub use undos::Undo;

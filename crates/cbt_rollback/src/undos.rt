@@ -1,12 +1,12 @@
 //! The machine that rolls back one attempt.
 
-ghost use Rattle.std.specs.Prelude.{◌≡◌, [], ◌∷◌, List, Some, None, IsTrue, IsSome, IfOk, IfSome};
+ghost use Rattle.std.specs.Prelude.{◌≡◌, ◌<◌, ◌≤◌, [], ◌∷◌, List, length, Some, None, IsTrue, IsSome, IfOk, IfSome};
 ghost use Rattle.std.specs.Option.{option_copied};
 ghost use Rattle.cbt_model.specs.Fitting.{fits, step_fits};
 ghost use Rattle.cbt_model.specs.declared.events.Made.{Made};
 ghost use Rattle.cbt_model.specs.declared.steps.Step.{Step};
 ghost use Rattle.cbt_attempt.specs.OwnWrites.{lists_of, noted};
-ghost use Rattle.cbt_rollback.specs.Phases.{after, end_of, step_of, task_of};
+ghost use Rattle.cbt_rollback.specs.Phases.{after, calls_left, end_of, step_of, task_of};
 ghost use Rattle.cbt_rollback.specs.Ready.{stamp_of, CopiesNotes, IsOf};
 ghost use Rattle.cbt_rollback.specs.Standing.{StandsFor};
 
@@ -44,6 +44,7 @@ impl Undo {
         ensures lists { IfOk result (λ undo. undo.lists ≡ lists_of attempt.now.writes) }
         // The works are the own writes, and the lists name them.
         ensures own { IfOk result (λ undo. IsOf (noted attempt.now.writes) (task_of undo)) }
+        ensures few { IfOk result (λ undo. length undo.works.entries ≤ length attempt.now.writes) }
         ensures stands { IfOk result (λ undo. StandsFor undo []) }
     {
         let atr = attempt.sent().unwrap();
@@ -98,6 +99,7 @@ impl Undo {
         ensures stands { (mine : List Made) (s : Step) → step_of self.old ≡ Some s
             → StandsFor self.old mine
             → StandsFor self.new (record { step = s; answer = answer } ∷ mine) }
+        ensures fewer { calls_left self.new < calls_left self.old }
     {
         self.phase = self.after(&answer);
     }
@@ -146,7 +148,8 @@ fn unstick(alloc: Global, doc: &DocId, cas: u64) -> Result<Option<Step>, NoMemor
 
 // The documents of the own writes of an attempt in their order, each with the stamp that is noted of it.
 fn works_of(alloc: Global, attempt: &Attempt) -> Result<IndexMap<DocId, Option<u64>>, NoMemory>
-    ensures { IfOk result (λ works. CopiesNotes (noted attempt.now.writes) works.entries) }
+    ensures copied { IfOk result (λ works. CopiesNotes (noted attempt.now.writes) works.entries) }
+    ensures few { IfOk result (λ works. length works.entries ≤ length attempt.now.writes) }
 {
     let mut works = IndexMap::new(alloc);
     for at in 0..usize::MAX {
