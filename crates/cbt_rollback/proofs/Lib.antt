@@ -3,3 +3,4 @@ pub mod Moving
 pub mod Bounds
 pub mod Ends
 pub mod Closes
+pub mod Licensed

@@ -26,12 +26,16 @@ pub record IsOf (own : List ℕ → Option Own) (t : Task) : Type 0 where
   pub works : CopiesNotes own t.works
   pub lists : NamesByKind own t.lists
 
--- the client's own list before the rollback: what the attempt has noted is right, its entry was sent, and it was neither aborted
+-- attempt a may be aborted after the list l: what it has noted is right, its entry was sent to record r, and it was neither aborted
 -- nor committed
+pub record IsAbortable (a r : ℕ) (own : List ℕ → Option Own) (l : List Made) : Type 0 where
+  pub notes : NotesWrites a r own l
+  pub sent : Once (λ m _. (exp : ℕ) × (m.step ≡ step.AddEntry r a exp)) l
+  pub unaborted : ¬ Once (λ m _. aborts m.step ≡ Some a) l
+  pub unsettled : CommitsUnsettled l r a
+
+-- a rollback may begin after the list l
 pub record IsReady (t : Task) (l : List Made) : Type 0 where
   pub own : List ℕ → Option Own
   pub is_of : IsOf own t
-  pub notes : NotesWrites t.attempt t.atr own l
-  pub sent : Once (λ m _. (exp : ℕ) × (m.step ≡ step.AddEntry t.atr t.attempt exp)) l
-  pub unaborted : ¬ Once (λ m _. aborts m.step ≡ Some t.attempt) l
-  pub unsettled : CommitsUnsettled l t.atr t.attempt
+  pub abortable : IsAbortable t.attempt t.atr own l

@@ -6,12 +6,14 @@ ghost use Rattle.cbt_model.specs.declared.events.Made.{Made};
 ghost use Rattle.cbt_model.specs.declared.steps.Reply.TheVariants as reply;
 ghost use Rattle.cbt_model.specs.declared.steps.Step.{Step};
 ghost use Rattle.cbt_book.specs.Closing.{HasAborted, IsUndone, MayClose};
+ghost use Rattle.cbt_book.specs.Licence.{MayTake};
+ghost use Rattle.cbt_book.specs.Numbers.{Identity};
 ghost use Rattle.cbt_book.specs.Outcomes.{EndsFailed};
 ghost use Rattle.cbt_book.specs.OwnLists.{Each};
 ghost use Rattle.cbt_attempt.specs.declared.own.Own.{Own};
 ghost use Rattle.cbt_rollback.specs.Commits.{AreCommits};
 ghost use Rattle.cbt_rollback.specs.Phases.{calls_left, end_of, step_of, task_of};
-ghost use Rattle.cbt_rollback.specs.Ready.{IsOf};
+ghost use Rattle.cbt_rollback.specs.Ready.{IsOf, IsReady};
 ghost use Rattle.cbt_rollback.specs.Standing.{StandsFor};
 ghost use Rattle.cbt_rollback.specs.declared.undos.Undo.{Undo};
 
@@ -51,4 +53,11 @@ pub fn undos_close()
     ensures asked { (undo : Undo) (own : List ℕ → Option Own) (mine commits : List Made) (s : Step) → StandsFor undo mine
         → IsOf own (task_of undo) → AreCommits commits
         → step_of undo ≡ Some s → MayClose undo.attempt (mine ++ commits) s }
+{}
+
+/// Each call that a rollback asks for is licensed by its client's whole own list, where the list before
+/// its beginning was ready for it.
+pub fn undos_are_licensed()
+    ensures { (who : Identity) (undo : Undo) (mine before : List Made) (s : Step) → StandsFor undo mine
+        → IsReady (task_of undo) before → step_of undo ≡ Some s → MayTake who (mine ++ before) s }
 {}

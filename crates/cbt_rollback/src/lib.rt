@@ -7,6 +7,6 @@ mod laws;
 mod phases;
 mod undos;
 
-pub use laws::{undos_close, undos_end_right, undos_stay_bounded};
+pub use laws::{undos_are_licensed, undos_close, undos_end_right, undos_stay_bounded};
 pub use phases::{Phase, UndoEnd};
 pub use undos::Undo;

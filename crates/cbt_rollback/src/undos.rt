@@ -1,13 +1,13 @@
 //! The machine that rolls back one attempt.
 
-ghost use Rattle.std.specs.Prelude.{◌≡◌, ◌<◌, ◌≤◌, [], ◌∷◌, List, length, Some, None, IsTrue, IsSome, IfOk, IfSome};
+ghost use Rattle.std.specs.Prelude.{◌≡◌, ℕ, ◌<◌, ◌≤◌, [], ◌∷◌, List, length, Some, None, IsTrue, IsSome, IfOk, IfSome};
 ghost use Rattle.std.specs.Option.{option_copied};
 ghost use Rattle.cbt_model.specs.Fitting.{fits, step_fits};
 ghost use Rattle.cbt_model.specs.declared.events.Made.{Made};
 ghost use Rattle.cbt_model.specs.declared.steps.Step.{Step};
 ghost use Rattle.cbt_attempt.specs.OwnWrites.{lists_of, noted};
 ghost use Rattle.cbt_rollback.specs.Phases.{after, calls_left, end_of, step_of, task_of};
-ghost use Rattle.cbt_rollback.specs.Ready.{stamp_of, CopiesNotes, IsOf};
+ghost use Rattle.cbt_rollback.specs.Ready.{stamp_of, CopiesNotes, IsAbortable, IsOf, IsReady};
 ghost use Rattle.cbt_rollback.specs.Standing.{StandsFor};
 
 use crate::phases::{Phase, UndoEnd, after_abort, after_drop, after_reading, after_unstick};
@@ -44,6 +44,10 @@ impl Undo {
         ensures lists { IfOk result (λ undo. undo.lists ≡ lists_of attempt.now.writes) }
         // The works are the own writes, and the lists name them.
         ensures own { IfOk result (λ undo. IsOf (noted attempt.now.writes) (task_of undo)) }
+        // What is said of the attempt and its client's own list licenses the rollback.
+        ensures ready { (l : List Made) (atr : ℕ) → attempt.now.sent ≡ Some atr
+            → IsAbortable attempt.now.id atr (noted attempt.now.writes) l
+            → IfOk result (λ undo. IsReady (task_of undo) l) }
         ensures few { IfOk result (λ undo. length undo.works.entries ≤ length attempt.now.writes) }
         ensures stands { IfOk result (λ undo. StandsFor undo []) }
     {
