@@ -1,12 +1,12 @@
 -- A rollback has fewer calls left after each answer.
-use Rattle.std.proofs.Common.{◌≡◌, true, ℕ, suc, zero, ◌+◌, ◌-◌, ◌*◌, ◌≤◌, ◌<◌, ⊎_elim, List, [], ◌∷◌, length, slice_get, Option, Some, None, refl, sym, ap, ◌∙◌, arith}
+use Rattle.std.proofs.Common.{◌≡◌, true, ℕ, suc, ◌+◌, ◌-◌, ◌*◌, ◌≤◌, ◌<◌, ⊎_elim, List, length, slice_get, Option, Some, None, refl, sym, ap, ◌∙◌, arith}
 use Rattle.std.proofs.lemmas.Option.{none-some, slice_get_within, slice_get_past, slice_get_cases}
 use Rattle.cbt_model.specs.Fitting.{fits}
 use Rattle.cbt_model.specs.declared.events.Answer.{Answer}
 use Rattle.cbt_model.specs.declared.events.Made.{Made}
 use Rattle.cbt_model.specs.declared.steps.Step.{Step}
 use Rattle.cbt_rollback.specs.Moves.{Moves, finds_no_entry, is_aborted, unsticks, finds_off, finds_staged, takes, drops, fails}
-use Rattle.cbt_rollback.specs.Phases.{Work, Task, going_step, taking_step, step_for, left_in, after}
+use Rattle.cbt_rollback.specs.Phases.{Work, Task, taking_step, step_for, left_in, after}
 use Rattle.cbt_rollback.specs.Standing.{Runs, begun, goes_on}
 use Rattle.cbt_rollback.specs.declared.phases.Phase.{Phase}
 use Rattle.cbt_rollback.specs.declared.phases.Phase.TheVariants.{Aborting, Going, Taking, Ended}

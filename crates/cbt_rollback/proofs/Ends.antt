@@ -1,18 +1,20 @@
 -- How a rollback ends, by its own calls.
-use Rattle.std.proofs.Common.{◌≡◌, ◌≢◌, ℕ, true, false, ◌⊎◌, inl, inr, ⊎_elim, List, [], ◌∷◌, Option, Some, None, refl, sym, ap, ◌∙◌, subst}
+use Rattle.std.proofs.Common.{◌≡◌, ◌≢◌, ℕ, true, false, ◌⊎◌, inl, inr, ⊎_elim, List, [], ◌∷◌, ◌++◌, Some, None, refl, sym, ap, ◌∙◌, subst}
 use Rattle.std.proofs.lemmas.Option.{none-some}
 use Rattle.cbt_model.specs.History.{is_done}
 use Rattle.cbt_model.specs.declared.events.Made.{Made}
 use Rattle.cbt_model.specs.declared.steps.Reply.{Reply}
 use Rattle.cbt_model.specs.declared.steps.Reply.TheVariants as reply
+use Rattle.cbt_model.specs.declared.steps.Step.{Step}
 use Rattle.cbt_model.specs.declared.steps.Step.TheVariants as step
 use Rattle.cbt_book.specs.Closing.{HasAborted, IsUndone, no_entry, dropped}
-use Rattle.cbt_book.specs.OwnLists.{Each}
+use Rattle.cbt_book.specs.OwnLists.{Once, Each}
 use Rattle.cbt_book.specs.Outcomes.{EndsFailed}
 use Rattle.cbt_book.specs.Passes.{IsDropped}
 use Rattle.cbt_book.specs.Shown.{aborts}
+use Rattle.cbt_rollback.specs.Commits.{rolls_back, AreCommits}
 use Rattle.cbt_rollback.specs.Moves.{IsTakenOff, by_it, before_it, FindsOff, absent, unstaged, of_another, elsewhere, Moves, finds_no_entry, is_aborted, unsticks, finds_off, finds_staged, takes, drops, fails}
-use Rattle.cbt_rollback.specs.Phases.{Task, step_for, end_in, after}
+use Rattle.cbt_rollback.specs.Phases.{Task, taking_step, step_for, end_in, after}
 use Rattle.cbt_rollback.specs.Standing.{Runs, begun, goes_on}
 use Rattle.cbt_rollback.specs.declared.phases.Phase.{Phase}
 use Rattle.cbt_rollback.specs.declared.phases.Phase.TheVariants.{Aborting, Going, Taking, Ended}
@@ -32,8 +34,16 @@ record IsUnderWay (t : Task) (mine : List Made) : Type 0 where
   pub aborted : HasAborted t.attempt mine
   pub fine : NoneFailed mine
 
+-- the abort found no entry
+abbrev FindsNone : ℕ → List Made → Type 0
+FindsNone a mine = Once (λ m _. (aborts m.step ≡ Some a) × (m.answer.reply ≡ reply.NoEntry)) mine
+
+-- the entry was dropped after the abort
+abbrev Drops : ℕ → List Made → Type 0
+Drops a mine = Once (λ m before. ((r : ℕ) × (m.step ≡ step.DropEntry r a false)) × IsDropped m.answer.reply × HasAborted a before) mine
+
 abbrev EndsBy : Task → UndoEnd → List Made → Type 0
-EndsBy t RolledBack mine = ((calls : List Made) → IsUndone t.attempt calls mine) × NoneFailed mine
+EndsBy t RolledBack mine = (FindsNone t.attempt mine ⊎ Drops t.attempt mine) × NoneFailed mine
 EndsBy t (Incomplete place) mine = EndsFailed place mine × HasAborted t.attempt mine
 
 -- what a phase tells of the calls
@@ -90,7 +100,7 @@ aborted_by t (Ended end) m mine asked it = absurd (none-some m.step asked)
 
 knows_on : (t : Task) (m : Made) (mine : List Made) (p q : Phase) → Moves t m p q → Knows t p mine → Knows t q (m ∷ mine)
 knows_on t m mine _ _ (finds_no_entry is told) none =
-    (λ calls. no_entry (inl (ap aborts is, told)), (λ failed. differ failed, subst NoneFailed (sym none) tt))
+    (inl (inl (ap aborts is, told)), (λ failed. differ failed, subst NoneFailed (sym none) tt))
   where
     differ : m.answer.reply ≡ reply.Failed → ⊥
     differ failed = cc
@@ -102,7 +112,7 @@ knows_on t m mine _ _ (finds_staged at x w body stage here none shows record_is 
     differ : m.answer.reply ≡ reply.Doc x body (Some stage) → m.answer.reply ≡ reply.Failed → ⊥
     differ told failed = cc
 knows_on t m mine _ _ (takes at x w here is off) it = goes_under_way t m mine (off_fine m.answer.reply off) it
-knows_on t m mine _ _ (drops at past is gone) it = (λ calls. dropped (inl ((t.atr, is), gone, it.aborted)), (dropped_fine m.answer.reply gone, it.fine))
+knows_on t m mine _ _ (drops at past is gone) it = (inr (inl ((t.atr, is), gone, it.aborted)), (dropped_fine m.answer.reply gone, it.fine))
 knows_on t m mine p _ (fails _ asked failed) it =
     (record { newest = m; older = mine; calls_are = refl; failed = failed; place_is = refl }, aborted_by t p m mine asked it)
 
@@ -116,9 +126,52 @@ ended t (Going at) mine end it is = absurd (none-some end is)
 ended t (Taking at x) mine end it is = absurd (none-some end is)
 ended t (Ended last) mine end it is = subst (λ e. EndsBy t e mine) (some_same is) it
 
+-- what is so of a step is so of it with more behind it
+once_front : (P Q : Made → List Made → Type 0) (l more : List Made) → ((m : Made) (past : List Made) → P m past → Q m (past ++ more)) → Once P l → Once Q (l ++ more)
+once_front P Q [] more longer once = absurd once
+once_front P Q (m ∷ l) more longer once = ⊎_elim (λ here. inl (longer m l here)) (λ later. inr (once_front P Q l more longer later)) once
+
+aborted_front : (a : ℕ) (l more : List Made) → HasAborted a l → HasAborted a (l ++ more)
+aborted_front a l more aborted = once_front (λ n _. aborts n.step ≡ Some a) (λ n _. aborts n.step ≡ Some a) l more (λ n past is. is) aborted
+
+undone_by : (a : ℕ) (calls l : List Made) → FindsNone a l ⊎ Drops a l → IsUndone a calls l
+undone_by a calls l how = ⊎_elim (λ none. no_entry none) (λ gone. dropped gone) how
+
+-- no commit aborts
+unaborted : (a : ℕ) (commits : List Made) → AreCommits commits → ¬ HasAborted a commits
+unaborted a [] each aborted = aborted
+unaborted a (m ∷ commits) each aborted = ⊎_elim (λ here. by m.step here each.0) (λ later. unaborted a commits each.1 later) aborted
+  where
+    by : (s : Step) → aborts s ≡ Some a → rolls_back s ≡ false → ⊥
+    by (step.Abort r b lists) is quiet = wrong quiet
+      where
+        wrong : true ≡ false → ⊥
+        wrong it = cc
+    by _ is quiet = absurd (cc)
+
+abbrev FineOnceAborted : ℕ → List Made → Type 0
+FineOnceAborted a l = Each (λ m before. HasAborted a (m ∷ before) → m.answer.reply ≢ reply.Failed) l
+
+commits_fine : (a : ℕ) (commits : List Made) → AreCommits commits → FineOnceAborted a commits
+commits_fine a [] each = tt
+commits_fine a (m ∷ commits) each = (λ aborted. absurd (unaborted a (m ∷ commits) each aborted), commits_fine a commits each.1)
+
+all_fine : (a : ℕ) (mine commits : List Made) → AreCommits commits → NoneFailed mine → FineOnceAborted a (mine ++ commits)
+all_fine a [] commits each fine = commits_fine a commits each
+all_fine a (m ∷ mine) commits each fine = (λ aborted. fine.0, all_fine a mine commits each fine.1)
+
+-- the newest call failed, and the attempt was aborted by it or before
+abbrev FailsAborted : ℕ → ℕ → List Made → Type 0
+FailsAborted a place l = Once (λ m before. (m.answer.place ≡ place) × (m.answer.reply ≡ reply.Failed) × HasAborted a (m ∷ before)) l
+
+fails_aborted : (a place : ℕ) (mine commits : List Made) → EndsFailed place mine → HasAborted a mine → FailsAborted a place (mine ++ commits)
+fails_aborted a place mine commits failed aborted =
+    subst (λ l. FailsAborted a place (l ++ commits)) (sym failed.calls_are)
+    (inl (failed.place_is, failed.failed, aborted_front a (failed.newest ∷ failed.older) commits (subst (λ l. HasAborted a l) failed.calls_are aborted)))
+
 module _ (t : Task) (p : Phase) (mine : List Made) (run : Runs t p mine) where
   pub undone : (calls : List Made) → end_in p ≡ Some RolledBack → IsUndone t.attempt calls mine
-  undone calls is = (ended t p mine RolledBack (knows t p mine run) is).0 calls
+  undone calls is = undone_by t.attempt calls mine (ended t p mine RolledBack (knows t p mine run) is).0
 
   pub unfailed : end_in p ≡ Some RolledBack → Each (λ m _. m.answer.reply ≢ reply.Failed) mine
   unfailed is = (ended t p mine RolledBack (knows t p mine run) is).1
@@ -128,3 +181,41 @@ module _ (t : Task) (p : Phase) (mine : List Made) (run : Runs t p mine) where
 
   pub failed_aborted : (place : ℕ) → end_in p ≡ Some (Incomplete place) → HasAborted t.attempt mine
   failed_aborted place is = (ended t p mine (Incomplete place) (knows t p mine run) is).1
+
+  module _ (commits : List Made) where
+    pub undone_after : (calls : List Made) → end_in p ≡ Some RolledBack → IsUndone t.attempt calls (mine ++ commits)
+    undone_after calls is =
+        undone_by t.attempt calls (mine ++ commits)
+        (⊎_elim (λ none. inl (once_front _ _ mine commits (λ m past so. so) none))
+        (λ gone. inr (once_front _ _ mine commits (λ m past so. (so.0, so.1, aborted_front t.attempt past commits so.2)) gone))
+        (ended t p mine RolledBack (knows t p mine run) is).0)
+
+    pub fine_after : AreCommits commits → end_in p ≡ Some RolledBack
+        → Each (λ m before. HasAborted t.attempt (m ∷ before) → m.answer.reply ≢ reply.Failed) (mine ++ commits)
+    fine_after before is = all_fine t.attempt mine commits before (unfailed is)
+
+    pub failed_after : (place : ℕ) → end_in p ≡ Some (Incomplete place)
+        → Once (λ m before. (m.answer.place ≡ place) × (m.answer.reply ≡ reply.Failed) × HasAborted t.attempt (m ∷ before)) (mine ++ commits)
+    failed_after place is = fails_aborted t.attempt place mine commits (ends_failed place is) (failed_aborted place is)
+
+-- a rollback that has not ended asks for a call
+has_call : (t : Task) (m : Made) (p q : Phase) → Moves t m p q → end_in q ≡ None → step_for t q ≢ None
+has_call t m _ _ (finds_no_entry is told) going none = cc
+has_call t m _ _ (is_aborted is shows fine) going none = cc
+has_call t m _ _ (unsticks at x w here known is off) going none = cc
+has_call t m _ _ (finds_off at w here nothing is off) going none = cc
+has_call t m _ _ (finds_staged at x w body stage here nothing reads record_is attempt_is) going none = none-some _ (sym none ∙ ap (taking_step x) here)
+has_call t m _ _ (takes at x w here is off) going none = cc
+has_call t m _ _ (drops at past is gone) going none = cc
+has_call t m p _ (fails _ asked failed) going none = cc
+
+pub goes_on_asking : (t : Task) (p : Phase) (mine : List Made) → Runs t p mine → end_in p ≡ None → step_for t p ≢ None
+goes_on_asking t _ _ begun going none = cc
+goes_on_asking t _ _ (goes_on p mine m run asked fit) going none =
+    has_call t m p (after t p m.answer.place m.answer.reply) (moves t m p asked fit) going none
+
+pub asks_no_more : (t : Task) (p : Phase) → end_in p ≢ None → step_for t p ≡ None
+asks_no_more t Aborting ended = absurd (ended refl)
+asks_no_more t (Going at) ended = absurd (ended refl)
+asks_no_more t (Taking at x) ended = absurd (ended refl)
+asks_no_more t (Ended end) ended = refl

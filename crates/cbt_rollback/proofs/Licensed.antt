@@ -1,5 +1,5 @@
 -- Each call of a rollback is licensed by its client's whole own list.
-use Rattle.std.proofs.Common.{◌≡◌, ◌≢◌, ℕ, suc, ◌+◌, ◌≤◌, ◌==◌, Bool, true, false, ◌⊎◌, inl, inr, ⊎_elim, List, [], ◌∷◌, ◌++◌, length, slice_get, Option, Some, None, refl, sym, ap, ◌∙◌, subst, arith}
+use Rattle.std.proofs.Common.{◌≡◌, ℕ, suc, ◌+◌, ◌≤◌, ◌==◌, Bool, true, false, ◌⊎◌, inl, inr, ⊎_elim, List, [], ◌∷◌, ◌++◌, length, slice_get, Option, Some, None, refl, sym, ap, ◌∙◌, subst, arith}
 use Rattle.std.proofs.lemmas.Bool.{eqb-true}
 use Rattle.std.proofs.lemmas.Option.{none-some, slice_get_within, slice_get_cases}
 use Rattle.cbt_json.specs.declared.value.Json.{Json}
@@ -11,7 +11,6 @@ use Rattle.cbt_model.specs.declared.steps.Expect.{Expect}
 use Rattle.cbt_model.specs.declared.steps.Step.{Step}
 use Rattle.cbt_model.specs.declared.steps.Step.TheVariants as step
 use Rattle.cbt_attempt.specs.Notes.{stage_of}
-use Rattle.cbt_attempt.specs.declared.own.Own.{Own}
 use Rattle.cbt_attempt.proofs.Notes.{abort_licensed}
 use Rattle.cbt_book.specs.Licence.{IsListed, WasStaged, MayHaveStaged, MayUnstick, MayDrop, MayTake, Clears}
 use Rattle.cbt_book.specs.Licence as licence

@@ -1,6 +1,5 @@
 -- The rules of a rollback, as a pure machine: what a phase asks for, and which phase follows an answer.
 use Rattle.std.specs.Prelude.{ℕ, false, ◌+◌, ◌-◌, ◌*◌, ◌==◌, ◌&&◌, if◌then◌else◌, List, length, slice_get, Option, Some, None}
-use Rattle.cbt_model.specs.declared.documents.Stage.{Stage}
 use Rattle.cbt_model.specs.declared.entries.Lists.{Lists}
 use Rattle.cbt_model.specs.declared.steps.Reply.{Reply}
 use Rattle.cbt_model.specs.declared.steps.Reply.TheVariants as reply

@@ -1,7 +1,7 @@
 //! What the calls of a rollback come to, whatever fitting answers they had. Each function does nothing:
 //! what it ensures is the law. They take no memory.
 
-ghost use Rattle.std.specs.Prelude.{◌≡◌, ◌≢◌, ℕ, ◌+◌, ◌*◌, ◌≤◌, List, ◌++◌, length, Option, Some, None};
+ghost use Rattle.std.specs.Prelude.{◌≡◌, ◌≢◌, ℕ, ◌+◌, ◌*◌, ◌≤◌, List, ◌∷◌, ◌++◌, length, Option, Some, None};
 ghost use Rattle.cbt_model.specs.declared.events.Made.{Made};
 ghost use Rattle.cbt_model.specs.declared.steps.Reply.TheVariants as reply;
 ghost use Rattle.cbt_model.specs.declared.steps.Step.{Step};
@@ -9,7 +9,7 @@ ghost use Rattle.cbt_book.specs.Closing.{HasAborted, IsUndone, MayClose};
 ghost use Rattle.cbt_book.specs.Licence.{MayTake};
 ghost use Rattle.cbt_book.specs.Numbers.{Identity};
 ghost use Rattle.cbt_book.specs.Outcomes.{EndsFailed};
-ghost use Rattle.cbt_book.specs.OwnLists.{Each};
+ghost use Rattle.cbt_book.specs.OwnLists.{Each, Once};
 ghost use Rattle.cbt_attempt.specs.declared.own.Own.{Own};
 ghost use Rattle.cbt_rollback.specs.Commits.{AreCommits};
 ghost use Rattle.cbt_rollback.specs.Phases.{calls_left, end_of, step_of, task_of};
@@ -41,6 +41,27 @@ pub fn undos_end_right()
         → end_of undo ≡ Some (UndoEnd.Incomplete place) → EndsFailed place mine }
     ensures aborted { (undo : Undo) (mine : List Made) (place : ℕ) → StandsFor undo mine
         → end_of undo ≡ Some (UndoEnd.Incomplete place) → HasAborted undo.attempt mine }
+{}
+
+/// The same of all calls that close the attempt, where it made these commits before. They are what its
+/// log is held to.
+pub fn undos_end_attempts()
+    ensures undone { (undo : Undo) (mine commits calls : List Made) → StandsFor undo mine
+        → end_of undo ≡ Some UndoEnd.RolledBack
+        → IsUndone undo.attempt calls (mine ++ commits) }
+    ensures unfailed { (undo : Undo) (mine commits : List Made) → StandsFor undo mine
+        → AreCommits commits → end_of undo ≡ Some UndoEnd.RolledBack
+        → Each (λ m before. HasAborted undo.attempt (m ∷ before) → m.answer.reply ≢ reply.Failed) (mine ++ commits) }
+    ensures failed { (undo : Undo) (mine commits : List Made) (place : ℕ) → StandsFor undo mine
+        → end_of undo ≡ Some (UndoEnd.Incomplete place)
+        → Once (λ m before. (m.answer.place ≡ place) × (m.answer.reply ≡ reply.Failed) × HasAborted undo.attempt (m ∷ before)) (mine ++ commits) }
+{}
+
+/// A rollback asks for a call exactly where it has not ended.
+pub fn undos_go_on()
+    ensures ended { (undo : Undo) → end_of undo ≢ None → step_of undo ≡ None }
+    ensures asks { (undo : Undo) (mine : List Made) → StandsFor undo mine → end_of undo ≡ None
+        → step_of undo ≢ None }
 {}
 
 /// Each call of a rollback, and the one that it asks for, is one with which its attempt may close, after

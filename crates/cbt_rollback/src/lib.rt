@@ -7,6 +7,9 @@ mod laws;
 mod phases;
 mod undos;
 
-pub use laws::{undos_are_licensed, undos_close, undos_end_right, undos_stay_bounded};
+pub use laws::{
+    undos_are_licensed, undos_close, undos_end_attempts, undos_end_right, undos_go_on,
+    undos_stay_bounded,
+};
 pub use phases::{Phase, UndoEnd};
 pub use undos::Undo;
