@@ -1,5 +1,5 @@
 -- What a rollback needs of the attempt that it was begun with, and of its client's own list before.
-use Rattle.std.specs.Prelude.{◌≡◌, ℕ, List, slice_get, Option, Some, None}
+use Rattle.std.specs.Prelude.{◌≡◌, ℕ, List, map, slice_get, Option, Some, None}
 use Rattle.cbt_model.specs.declared.events.Made.{Made}
 use Rattle.cbt_model.specs.declared.steps.Step.TheVariants as step
 use Rattle.cbt_attempt.specs.Notes.{NotesWrites}
@@ -14,6 +14,10 @@ use Rattle.cbt_rollback.specs.Phases.{Work, Task}
 abbrev pub stamp_of : Option Own → Option ℕ
 stamp_of None = None
 stamp_of (Some w) = w.cas
+
+-- own writes as works, in their order
+abbrev pub works_in : List (List ℕ × Own) → List Work
+works_in writes = map (λ e. (e.0, e.1.cas)) writes
 
 -- the works are just the own writes that are noted, each document once
 pub record CopiesNotes (own : List ℕ → Option Own) (works : List Work) : Type 0 where

@@ -1,13 +1,15 @@
 //! The machine that rolls back one attempt.
 
-ghost use Rattle.std.specs.Prelude.{◌≡◌, ℕ, ◌<◌, ◌≤◌, [], ◌∷◌, List, length, Some, None, IsTrue, IsSome, IfOk, IfSome};
+ghost use Rattle.std.specs.Prelude.{◌≡◌, ℕ, ◌<◌, ◌≤◌, [], ◌∷◌, List, length, Some, None, IsTrue, IsSome, IfOk, IfSome, bytes_eq};
 ghost use Rattle.std.specs.Option.{option_copied};
+ghost use Rattle.std.specs.List.{IsDistinct};
+ghost use Rattle.std.specs.Map.{keys_of};
 ghost use Rattle.cbt_model.specs.Fitting.{fits, step_fits};
 ghost use Rattle.cbt_model.specs.declared.events.Made.{Made};
 ghost use Rattle.cbt_model.specs.declared.steps.Step.{Step};
 ghost use Rattle.cbt_attempt.specs.OwnWrites.{lists_of, noted};
 ghost use Rattle.cbt_rollback.specs.Phases.{after, calls_left, end_of, step_of, task_of};
-ghost use Rattle.cbt_rollback.specs.Ready.{stamp_of, CopiesNotes, IsAbortable, IsOf, IsReady};
+ghost use Rattle.cbt_rollback.specs.Ready.{stamp_of, works_in, CopiesNotes, IsAbortable, IsOf, IsReady};
 ghost use Rattle.cbt_rollback.specs.Standing.{StandsFor};
 
 use crate::phases::{Phase, UndoEnd, after_abort, after_drop, after_reading, after_unstick};
@@ -44,6 +46,8 @@ impl Undo {
         ensures lists { IfOk result (λ undo. undo.lists ≡ lists_of attempt.now.writes) }
         // The works are the own writes, and the lists name them.
         ensures own { IfOk result (λ undo. IsOf (noted attempt.now.writes) (task_of undo)) }
+        ensures in_order { IsDistinct bytes_eq (keys_of attempt.now.writes)
+            → IfOk result (λ undo. undo.works.entries ≡ works_in attempt.now.writes) }
         // What is said of the attempt and its client's own list licenses the rollback.
         ensures ready { (l : List Made) (atr : ℕ) → attempt.now.sent ≡ Some atr
             → IsAbortable attempt.now.id atr (noted attempt.now.writes) l
@@ -153,6 +157,7 @@ fn unstick(alloc: Global, doc: &DocId, cas: u64) -> Result<Option<Step>, NoMemor
 // The documents of the own writes of an attempt in their order, each with the stamp that is noted of it.
 fn works_of(alloc: Global, attempt: &Attempt) -> Result<IndexMap<DocId, Option<u64>>, NoMemory>
     ensures copied { IfOk result (λ works. CopiesNotes (noted attempt.now.writes) works.entries) }
+    ensures in_order { IsDistinct bytes_eq (keys_of attempt.now.writes) → IfOk result (λ works. works.entries ≡ works_in attempt.now.writes) }
     ensures few { IfOk result (λ works. length works.entries ≤ length attempt.now.writes) }
 {
     let mut works = IndexMap::new(alloc);
