@@ -5,7 +5,7 @@ use Rattle.cbt_model.specs.Fitting.{fits}
 use Rattle.cbt_model.specs.declared.events.Answer.{Answer}
 use Rattle.cbt_model.specs.declared.events.Made.{Made}
 use Rattle.cbt_model.specs.declared.steps.Step.{Step}
-use Rattle.cbt_rollback.specs.Moves.{Moves, finds_no_entry, is_aborted, unsticks, finds_off, finds_staged, takes, drops, fails}
+use Rattle.cbt_rollback.proofs.Moves.{Moves, finds_no_entry, is_aborted, unsticks, finds_off, finds_staged, takes, drops, fails}
 use Rattle.cbt_rollback.specs.Phases.{Work, Task, taking_step, step_for, left_in, after}
 use Rattle.cbt_rollback.specs.Standing.{Runs, begun, goes_on}
 use Rattle.cbt_rollback.specs.declared.phases.Phase.{Phase}

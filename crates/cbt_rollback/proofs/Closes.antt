@@ -10,7 +10,7 @@ use Rattle.cbt_book.specs.Licence.{IsListed}
 use Rattle.cbt_book.specs.OwnLists.{Once, Each}
 use Rattle.cbt_book.specs.Shown.{aborts, decides}
 use Rattle.cbt_rollback.specs.Commits.{rolls_back, AreCommits}
-use Rattle.cbt_rollback.specs.Moves.{Moves, finds_no_entry, is_aborted, unsticks, finds_off, finds_staged, takes, drops, fails}
+use Rattle.cbt_rollback.proofs.Moves.{Moves, finds_no_entry, is_aborted, unsticks, finds_off, finds_staged, takes, drops, fails}
 use Rattle.cbt_rollback.specs.Phases.{Work, Task, take_off, going_step, taking_step, step_for, after}
 use Rattle.cbt_rollback.specs.Ready.{IsOf}
 use Rattle.cbt_rollback.specs.Standing.{Runs, begun, goes_on}

@@ -13,7 +13,7 @@ use Rattle.cbt_book.specs.Outcomes.{EndsFailed}
 use Rattle.cbt_book.specs.Passes.{IsDropped}
 use Rattle.cbt_book.specs.Shown.{aborts}
 use Rattle.cbt_rollback.specs.Commits.{rolls_back, AreCommits}
-use Rattle.cbt_rollback.specs.Moves.{IsTakenOff, by_it, before_it, FindsOff, absent, unstaged, of_another, elsewhere, Moves, finds_no_entry, is_aborted, unsticks, finds_off, finds_staged, takes, drops, fails}
+use Rattle.cbt_rollback.proofs.Moves.{IsTakenOff, by_it, before_it, FindsOff, absent, unstaged, of_another, elsewhere, Moves, finds_no_entry, is_aborted, unsticks, finds_off, finds_staged, takes, drops, fails}
 use Rattle.cbt_rollback.specs.Phases.{Task, taking_step, step_for, end_in, after}
 use Rattle.cbt_rollback.specs.Standing.{Runs, begun, goes_on}
 use Rattle.cbt_rollback.specs.declared.phases.Phase.{Phase}

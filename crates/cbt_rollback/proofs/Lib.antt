@@ -1,3 +1,4 @@
+pub mod Moves
 pub mod Works
 pub mod Moving
 pub mod Bounds

@@ -18,7 +18,7 @@ use Rattle.cbt_book.specs.Numbers.{Identity}
 use Rattle.cbt_book.specs.OwnLists.{Once, Kept, In}
 use Rattle.cbt_book.specs.Shown.{ReadsDoc, StagesAt, ShowsStaged, ShowsAborted, decides}
 use Rattle.cbt_book.specs.Shown as shown
-use Rattle.cbt_rollback.specs.Moves.{IsTakenOff, by_it, before_it, FindsOff, absent, unstaged, of_another, elsewhere, Moves, finds_no_entry, is_aborted, unsticks, finds_off, finds_staged, takes, drops, fails}
+use Rattle.cbt_rollback.proofs.Moves.{IsTakenOff, by_it, before_it, FindsOff, absent, unstaged, of_another, elsewhere, Moves, finds_no_entry, is_aborted, unsticks, finds_off, finds_staged, takes, drops, fails}
 use Rattle.cbt_rollback.specs.Phases.{Work, Task, take_off, going_step, taking_step, step_for, after}
 use Rattle.cbt_rollback.specs.Ready.{IsReady}
 use Rattle.cbt_rollback.specs.Standing.{Runs, begun, goes_on}

@@ -10,7 +10,7 @@ use Rattle.cbt_model.specs.declared.steps.Reply.TheVariants as reply
 use Rattle.cbt_model.specs.declared.steps.Step.{Step}
 use Rattle.cbt_model.specs.declared.steps.Step.TheVariants as step
 use Rattle.cbt_book.specs.Shown.{own_abort, refused_abort}
-use Rattle.cbt_rollback.specs.Moves.{IsTakenOff, by_it, before_it, absent, unstaged, of_another, elsewhere, Moves, finds_no_entry, is_aborted, unsticks, finds_off, finds_staged, takes, drops, fails}
+use Rattle.cbt_rollback.proofs.Moves.{IsTakenOff, by_it, before_it, absent, unstaged, of_another, elsewhere, Moves, finds_no_entry, is_aborted, unsticks, finds_off, finds_staged, takes, drops, fails}
 use Rattle.cbt_rollback.specs.Phases.{Work, Task, take_off, going_step, taking_step, step_for, after_abort, after_unstick, after_reading, after_drop, after_work, after_going, after}
 use Rattle.cbt_rollback.specs.declared.phases.Phase.{Phase}
 use Rattle.cbt_rollback.specs.declared.phases.Phase.TheVariants.{Aborting, Going, Taking, Ended}

@@ -1,5 +1,4 @@
 pub mod Commits
-pub mod Moves
 pub mod Phases
 pub mod Ready
 pub mod Standing

@@ -154,7 +154,8 @@ fn unstick(alloc: Global, doc: &DocId, cas: u64) -> Result<Option<Step>, NoMemor
     }))
 }
 
-// The documents of the own writes of an attempt in their order, each with the stamp that is noted of it.
+// The documents of the own writes of an attempt in their order, each with the stamp that is noted of
+// it.
 fn works_of(alloc: Global, attempt: &Attempt) -> Result<IndexMap<DocId, Option<u64>>, NoMemory>
     ensures copied { IfOk result (λ works. CopiesNotes (noted attempt.now.writes) works.entries) }
     ensures in_order { IsDistinct bytes_eq (keys_of attempt.now.writes) → IfOk result (λ works. works.entries ≡ works_in attempt.now.writes) }
@@ -165,6 +166,7 @@ fn works_of(alloc: Global, attempt: &Attempt) -> Result<IndexMap<DocId, Option<u
         let Some((doc, _)) = attempt.write_at(at) else {
             return Ok(works);
         };
+        // By a look-up, since that is what the attempt has noted of the document.
         let stamp = stamp(attempt, doc);
         works.insert(doc.copy(alloc)?, stamp)?;
     }

@@ -1,5 +1,5 @@
 -- How a fitting answer takes a rollback from one phase to the next.
-use Rattle.std.specs.Prelude.{◌≡◌, ◌≢◌, ℕ, ◌+◌, false, List, slice_get, Option, Some, None}
+use Rattle.std.proofs.Common.{◌≡◌, ◌≢◌, ℕ, ◌+◌, false, List, slice_get, Option, Some, None}
 use Rattle.cbt_json.specs.declared.value.Json.{Json}
 use Rattle.cbt_model.specs.declared.documents.Stage.{Stage}
 use Rattle.cbt_model.specs.declared.events.Made.{Made}
