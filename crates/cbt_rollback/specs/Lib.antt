@@ -1,0 +1,4 @@
+pub mod Commits
+pub mod Phases
+pub mod Ready
+pub mod Standing
