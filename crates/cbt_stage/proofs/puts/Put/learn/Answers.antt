@@ -1,0 +1,9 @@
+use Rattle.std.proofs.Common.{◌<◌, sym, subst}
+use Rattle.cbt_stage.specs.Phases.{left_in}
+use Rattle.cbt_stage.proofs.Counting.{fewer_left}
+use Rattle.cbt_stage.proofs.puts.Put.learn.Goals as goal
+
+pub returns-clause-fewer : goal.returns-clause-fewer
+returns-clause-fewer c =
+    subst (λ p. left_in p < left_in c.args.self.now.phase) (sym c.after-self.ensures)
+    (fewer_left c.args.self.now.task c.args.self.now.phase c.args.answer.place c.args.answer.reply c.requires.asked)

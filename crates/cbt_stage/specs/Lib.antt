@@ -1,0 +1,4 @@
+pub mod Phases
+pub mod PutCalls
+pub mod Standing
+pub mod Tasks

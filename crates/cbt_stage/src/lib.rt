@@ -1,0 +1,13 @@
+//! The stagings of one write of a document by an attempt of a client-driven transaction. A staging is
+//! a machine: it names its next call, learns the answer, and ends with what became of the write.
+#![tactic(auto)]
+
+mod ends;
+mod phases;
+mod puts;
+mod tasks;
+
+pub use ends::PutEnd;
+pub use phases::Phase;
+pub use puts::Put;
+pub use tasks::Task;
