@@ -1,5 +1,5 @@
 -- The calls of a put are few.
-use Rattle.std.proofs.Common.{◌≡◌, ℕ, zero, suc, ◌+◌, ◌≤◌, ◌<◌, Bool, true, false, cond, List, [], ◌∷◌, length, count_by, Some, None, inl, inr, ⊎_elim, refl, sym, ap, ◌∙◌, subst, arith}
+use Rattle.std.proofs.Common.{◌≡◌, ℕ, suc, ◌+◌, ◌≤◌, ◌<◌, Bool, true, false, cond, List, ◌∷◌, length, count_by, Some, None, ⊎_elim, refl, sym, ap, ◌∙◌, subst, arith}
 use Rattle.std.specs.Option.{IsSome}
 use Rattle.std.proofs.lemmas.List.Sums.{sum_by-cons}
 use Rattle.std.proofs.lemmas.Option.{none-some}
@@ -7,11 +7,10 @@ use Rattle.cbt_model.specs.declared.events.Made.{Made}
 use Rattle.cbt_model.specs.declared.steps.Reply.{Reply}
 use Rattle.cbt_model.specs.declared.steps.Step.{Step}
 use Rattle.cbt_book.specs.Calls.{reads_doc, reads_entry, adds_entry, writes_doc, MayWrite, WriteTerms}
-use Rattle.cbt_book.specs.OwnLists.{Once, Each}
+use Rattle.cbt_book.specs.OwnLists.{Once}
 use Rattle.cbt_stage.specs.Phases.{step_for, end_in, left_in, after, after_entry, after_adding, after_staging}
 use Rattle.cbt_stage.specs.PutCalls.{PutCalls}
 use Rattle.cbt_stage.specs.Standing.{IsUnder, Knows, entries_left, adds_left, HasRoom}
-use Rattle.cbt_stage.specs.Tasks.{adds, stages}
 use Rattle.cbt_stage.specs.declared.phases.Phase.{Phase}
 use Rattle.cbt_stage.specs.declared.phases.Phase.TheVariants.{Asking, Adding, Staging, Ended}
 use Rattle.cbt_stage.specs.declared.tasks.Task.{Task}

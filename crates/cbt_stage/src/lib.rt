@@ -3,11 +3,13 @@
 #![tactic(auto)]
 
 mod ends;
+mod laws;
 mod phases;
 mod puts;
 mod tasks;
 
 pub use ends::PutEnd;
+pub use laws::{puts_go_on, puts_stay_bounded};
 pub use phases::Phase;
 pub use puts::Put;
 pub use tasks::Task;

@@ -1,10 +1,14 @@
 //! The machine of one write of a document on which the attempt has no own write.
 
-ghost use Rattle.std.specs.Prelude.{◌≡◌, ◌≤◌, ◌<◌, true, Some, IsTrue, IsSome, IfOk, IfSome};
+ghost use Rattle.std.specs.Prelude.{◌≡◌, ◌≤◌, ◌<◌, true, List, [], ◌∷◌, Some, IsTrue, IsSome, IfOk, IfSome};
 ghost use Rattle.std.specs.Option.{option_copied};
 ghost use Rattle.cbt_model.specs.Fitting.{content_fits, fits, step_fits};
+ghost use Rattle.cbt_model.specs.declared.events.Made.{Made};
 ghost use Rattle.cbt_model.specs.declared.steps.Step.{Step};
+ghost use Rattle.cbt_book.specs.Calls.{WriteTerms};
 ghost use Rattle.cbt_stage.specs.Phases.{after, calls_left, end_of, start, step_of};
+ghost use Rattle.cbt_stage.specs.PutCalls.{terms_of};
+ghost use Rattle.cbt_stage.specs.Standing.{StandsFor};
 ghost use Rattle.cbt_stage.specs.Tasks.{is_staging, record_added, task_of};
 
 use crate::ends::PutEnd;
@@ -43,6 +47,7 @@ impl Put {
         requires fits { content_fits kind content ≡ true }
         ensures task { result.task ≡ task_of attempt.now doc kind content seen }
         ensures phase { result.phase ≡ start (task_of attempt.now doc kind content seen) }
+        ensures stands { StandsFor (terms_of attempt.now) result [] }
     {
         let task = Task::new(attempt, doc, kind, content, seen);
         let phase = Phase::start(&task);
@@ -76,6 +81,9 @@ impl Put {
         ensures phase { self.new ≡ record self.old {
           phase = after self.old.task self.old.phase answer.place answer.reply;
         } }
+        ensures stands { (t : WriteTerms) (mine : List Made) (s : Step) → step_of self.old ≡ Some s
+            → StandsFor t self.old mine
+            → StandsFor t self.new (record { step = s; answer = answer } ∷ mine) }
         ensures fewer { calls_left self.new < calls_left self.old }
     {
         self.phase = self.phase.after(&self.task, answer.place, &answer.reply);
