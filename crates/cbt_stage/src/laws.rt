@@ -3,14 +3,37 @@
 //!
 //! An attempt writes under the terms `t`, and `mine` are the calls of its put, newest first.
 
-ghost use Rattle.std.specs.Prelude.{◌≡◌, ◌≢◌, ℕ, ◌+◌, ◌≤◌, ◌↔◌, List, ◌++◌, length, Some, None};
+ghost use Rattle.std.specs.Prelude.{◌≡◌, ◌≢◌, ℕ, ◌+◌, ◌≤◌, ◌↔◌, true, List, ◌++◌, length, Some, None};
 ghost use Rattle.cbt_model.specs.declared.events.Made.{Made};
 ghost use Rattle.cbt_book.specs.Calls.{GetCalls, WriteCalls, WriteTerms};
+ghost use Rattle.cbt_book.specs.Outcomes.{DoneAt, EndsFailed, is_refusal};
+ghost use Rattle.cbt_book.specs.declared.operations.When.{When};
+ghost use Rattle.cbt_book.specs.declared.operations.When.TheVariants as when;
 ghost use Rattle.cbt_stage.specs.Phases.{calls_left, end_of, step_of};
 ghost use Rattle.cbt_stage.specs.PutCalls.{PutCalls};
-ghost use Rattle.cbt_stage.specs.Standing.{StandsFor, WasAsked};
+ghost use Rattle.cbt_stage.specs.Standing.{EndsBlocked, EndsStaging, StandsFor, WasAsked};
 ghost use Rattle.cbt_stage.specs.declared.phases.Phase.{Phase};
 ghost use Rattle.cbt_stage.specs.declared.puts.Put.{Put};
+
+use crate::ends::PutEnd;
+
+/// What a put has ended with is so by its calls: the newest staged the write over what was read, or was
+/// refused by the document, or failed; or all four showed the entry of the attempt whose write waits.
+pub fn puts_end_right()
+    ensures staged { (t : WriteTerms) (put : Put) (mine : List Made) (place : ℕ) (base : When) → StandsFor t put mine
+        → end_of put ≡ Some (PutEnd.Staged place base)
+        → (base ≡ when.At put.task.seen.moment) × EndsStaging put.task (DoneAt place) mine }
+    ensures moved { (t : WriteTerms) (put : Put) (mine : List Made) → StandsFor t put mine
+        → end_of put ≡ Some PutEnd.Moved
+        → EndsStaging put.task (λ m. is_refusal m.answer.reply ≡ true) mine }
+    ensures blocked { (t : WriteTerms) (put : Put) (mine : List Made) (by : ℕ) → StandsFor t put mine
+        → end_of put ≡ Some (PutEnd.Blocked by) → EndsBlocked put.task by mine }
+    ensures failed { (t : WriteTerms) (put : Put) (mine : List Made) (place : ℕ) → StandsFor t put mine
+        → end_of put ≡ Some (PutEnd.CallFailed place) → EndsFailed place mine }
+    // Nothing is taken back.
+    ensures unstaged { (t : WriteTerms) (put : Put) (mine : List Made) (place : ℕ) → StandsFor t put mine
+        → end_of put ≢ Some (PutEnd.Unstaged place) }
+{}
 
 /// After each call a put has made only the calls of a write, few of each kind, and has so many left that
 /// it makes at most 6. With the readings of a get before them they are the calls of a write.
