@@ -1,4 +1,5 @@
 pub mod Phases
 pub mod PutCalls
+pub mod Ready
 pub mod Standing
 pub mod Tasks

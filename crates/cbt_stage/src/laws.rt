@@ -5,12 +5,16 @@
 
 ghost use Rattle.std.specs.Prelude.{◌≡◌, ◌≢◌, ℕ, ◌+◌, ◌≤◌, ◌↔◌, true, List, ◌++◌, length, Some, None};
 ghost use Rattle.cbt_model.specs.declared.events.Made.{Made};
+ghost use Rattle.cbt_model.specs.declared.steps.Step.{Step};
 ghost use Rattle.cbt_book.specs.Calls.{GetCalls, WriteCalls, WriteTerms};
+ghost use Rattle.cbt_book.specs.Licence.{MayTake};
+ghost use Rattle.cbt_book.specs.Numbers.{Identity};
 ghost use Rattle.cbt_book.specs.Outcomes.{DoneAt, EndsFailed, is_refusal};
 ghost use Rattle.cbt_book.specs.declared.operations.When.{When};
 ghost use Rattle.cbt_book.specs.declared.operations.When.TheVariants as when;
 ghost use Rattle.cbt_stage.specs.Phases.{calls_left, end_of, step_of};
 ghost use Rattle.cbt_stage.specs.PutCalls.{PutCalls};
+ghost use Rattle.cbt_stage.specs.Ready.{IsReady};
 ghost use Rattle.cbt_stage.specs.Standing.{EndsBlocked, EndsStaging, StandsFor, WasAsked};
 ghost use Rattle.cbt_stage.specs.declared.phases.Phase.{Phase};
 ghost use Rattle.cbt_stage.specs.declared.puts.Put.{Put};
@@ -56,4 +60,12 @@ pub fn puts_go_on()
     ensures none_left { (put : Put) → calls_left put ≡ 0 ↔ step_of put ≡ None }
     ensures waits { (t : WriteTerms) (put : Put) (mine : List Made) (r by left : ℕ) → StandsFor t put mine
         → put.phase ≡ Phase.Asking r by left → WasAsked put.task r by left mine }
+{}
+
+/// The call that a put asks for is one that its client may make next, where the client's own list before
+/// the put, `l0`, shows what the put was begun with.
+pub fn puts_are_licensed()
+    ensures { (who : Identity) (t : WriteTerms) (put : Put) (mine l0 : List Made) (s : Step)
+        → StandsFor t put mine → IsReady who put.task l0 → step_of put ≡ Some s
+        → MayTake who (mine ++ l0) s }
 {}

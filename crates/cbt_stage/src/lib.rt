@@ -9,7 +9,7 @@ mod puts;
 mod tasks;
 
 pub use ends::PutEnd;
-pub use laws::{puts_end_right, puts_go_on, puts_stay_bounded};
+pub use laws::{puts_are_licensed, puts_end_right, puts_go_on, puts_stay_bounded};
 pub use phases::Phase;
 pub use puts::Put;
 pub use tasks::Task;
