@@ -62,7 +62,7 @@ staged_entries o place answer = grind arith
 staged_adds : (o : Task) (place : ℕ) (answer : Reply) → adds_left (after_staging o place answer) ≡ 0
 staged_adds o place answer = grind arith
 
-staged_ends : (o : Task) (place : ℕ) (answer : Reply) → end_in (after_staging o place answer) ≡ None → ⊥
+pub staged_ends : (o : Task) (place : ℕ) (answer : Reply) → end_in (after_staging o place answer) ≡ None → ⊥
 staged_ends o place answer going = grind arith
 
 true-false : {b : Bool} → b ≡ true → b ≡ false → ⊥

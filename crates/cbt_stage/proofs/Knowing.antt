@@ -10,9 +10,11 @@ use Rattle.cbt_model.specs.declared.steps.Expect.{Expect}
 use Rattle.cbt_model.specs.declared.steps.Expect.TheVariants as expect
 use Rattle.cbt_model.specs.declared.steps.Reply.{Reply}
 use Rattle.cbt_model.specs.declared.steps.Reply.TheVariants as reply
+use Rattle.cbt_model.specs.declared.steps.Step.{Step}
 use Rattle.cbt_model.specs.declared.steps.Step.TheVariants as step
 use Rattle.cbt_book.specs.Outcomes.{expected, is_refusal}
 use Rattle.cbt_book.specs.Shown.{ReadsEntry, added, was_there}
+use Rattle.cbt_stage.specs.OpenPuts.{LeavesOpen, shown, missing, entered as told_entered}
 use Rattle.cbt_stage.specs.Phases.{step_for, end_in, again, entered, first, start, after_entry, after_adding, after_staging, after}
 use Rattle.cbt_stage.specs.Standing.{WasAsked, IsFree, EndsBy, Knows}
 use Rattle.cbt_stage.specs.Tasks.{adds, stages}
@@ -20,7 +22,7 @@ use Rattle.cbt_stage.specs.declared.ends.PutEnd.{PutEnd}
 use Rattle.cbt_stage.specs.declared.phases.Phase.{Phase}
 use Rattle.cbt_stage.specs.declared.phases.Phase.TheVariants.{Asking, Adding, Staging, Ended}
 use Rattle.cbt_stage.specs.declared.tasks.Task.{Task}
-use Rattle.cbt_stage.proofs.Counting.{some_same}
+use Rattle.cbt_stage.proofs.Counting.{some_same, staged_ends}
 
 -- where nobody is in the way, the put enters
 enters : (o : Task) (sent : Bool) (mine : List Made) → o.sent ≡ sent → IsFree o mine → Knows o (entered sent) mine
@@ -115,3 +117,30 @@ ends_by o (Asking r by left) mine end was ended = absurd (none-some end ended)
 ends_by o Adding mine end may ended = absurd (none-some end ended)
 ends_by o Staging mine end has ended = absurd (none-some end ended)
 ends_by o (Ended last) mine end it ended = subst (λ e. EndsBy o e mine) (some_same ended) it
+
+-- a call that did not end a put left it open
+entry_open : (o : Task) (r by left : ℕ) (m : Made) → m.step ≡ step.ReadEntry r by → (answer : Reply) → m.answer.reply ≡ answer → fits_read_entry answer ≡ true
+    → end_in (after_entry o r by left m.answer.place answer) ≡ None → LeavesOpen o m
+entry_open o r by left m is reply.NoEntry told fit going = missing r by (is, told)
+entry_open o r by left m is (reply.Entry e) told fit going = shown r by e (is, told)
+entry_open o r by left m is reply.Failed told fit going = absurd (cc)
+entry_open o r by left m is _ told fit going = absurd (cc)
+
+adding_open : (o : Task) (m : Made) → m.step ≡ adds o → (answer : Reply) → m.answer.reply ≡ answer → fits_add_entry answer ≡ true
+    → end_in (after_adding m.answer.place answer) ≡ None → LeavesOpen o m
+adding_open o m is (reply.Done c) told fit going = told_entered (added o.exp c is told)
+adding_open o m is reply.Exists told fit going = told_entered (was_there o.exp is told)
+adding_open o m is reply.Failed told fit going = absurd (cc)
+adding_open o m is _ told fit going = absurd (cc)
+
+pub left_open : (o : Task) (p : Phase) (m : Made) → step_for o p ≡ Some m.step → fits m.step m.answer.reply ≡ true
+    → end_in (after o p m.answer.place m.answer.reply) ≡ None → LeavesOpen o m
+left_open o (Asking r by left) m asked fit going =
+    entry_open o r by left m (sym (some_same asked)) m.answer.reply refl (ap (λ s. fits s m.answer.reply) (some_same asked) ∙ fit) going
+left_open o Adding m asked fit going = adding_open o m (sym (some_same asked)) m.answer.reply refl (ap (λ s. fits s m.answer.reply) (some_same asked) ∙ fit) going
+left_open o Staging m asked fit going = absurd (staged_ends o m.answer.place m.answer.reply going)
+left_open o (Ended end) m asked fit going = absurd (none-some m.step asked)
+
+-- a put that asks for a call has not ended
+pub was_going : (o : Task) (p : Phase) (s : Step) → step_for o p ≡ Some s → end_in p ≡ None
+was_going o p s asked = grind arith

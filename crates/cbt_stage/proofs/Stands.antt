@@ -17,7 +17,7 @@ use Rattle.cbt_stage.specs.Tasks.{record_of, task_of}
 use Rattle.cbt_stage.specs.declared.puts.Put.{Put}
 use Rattle.cbt_stage.specs.declared.tasks.Task.{Task}
 use Rattle.cbt_stage.proofs.Counting.{few_on, room_on}
-use Rattle.cbt_stage.proofs.Knowing.{knows_on, starts}
+use Rattle.cbt_stage.proofs.Knowing.{knows_on, left_open, starts, was_going}
 
 entries_first : (o : Task) → entries_left (start o) ≤ 4
 entries_first o = grind arith
@@ -47,6 +47,7 @@ stands_first a d kind content it =
       knows = starts o;
       room = record { only = record {}; unread = record {}; entries = omega arith; added = omega arith; written_last = record {}; unwritten = λ going once. once };
       few = omega arith;
+      going = λ none. record {};
     }
 
 pub stands_on : (t : WriteTerms) (put : Put) (mine : List Made) (s : Step) (answer : Answer) → step_of put ≡ Some s → fits s answer.reply ≡ true → StandsFor t put mine
@@ -58,4 +59,5 @@ stands_on t put mine s answer asked fit stands =
       knows = knows_on put.task put.phase mine m asked fit stands.knows;
       room = room_on t put.task put.phase mine m stands.under asked stands.knows stands.room;
       few = few_on put.task put.phase mine m asked stands.few;
+      going = λ none. (left_open put.task put.phase m asked fit none, stands.going (was_going put.task put.phase s asked));
     }

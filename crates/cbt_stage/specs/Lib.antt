@@ -1,3 +1,4 @@
+pub mod OpenPuts
 pub mod Phases
 pub mod PutCalls
 pub mod Ready

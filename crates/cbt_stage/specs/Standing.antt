@@ -8,7 +8,8 @@ use Rattle.cbt_book.specs.Outcomes.{AskedFourTimes, DoneAt, EndsFailed, is_refus
 use Rattle.cbt_book.specs.OwnLists.{Once, Each}
 use Rattle.cbt_book.specs.Shown.{ReadsEntry, FindsNoEntry, AddsEntry}
 use Rattle.cbt_book.specs.declared.operations.When.TheVariants as when
-use Rattle.cbt_stage.specs.Phases.{calls_left, end_in}
+use Rattle.cbt_stage.specs.OpenPuts.{LeavesOpen}
+use Rattle.cbt_stage.specs.Phases.{calls_left, end_in, end_of}
 use Rattle.cbt_stage.specs.Tasks.{stages}
 use Rattle.cbt_stage.specs.declared.ends.PutEnd.{PutEnd}
 use Rattle.cbt_stage.specs.declared.ends.PutEnd.TheVariants.{Staged, Unstaged, Blocked, Moved, CallFailed}
@@ -103,3 +104,4 @@ pub record StandsFor (t : WriteTerms) (put : Put) (mine : List Made) : Type 0 wh
   pub knows : Knows put.task put.phase mine
   pub room : HasRoom t put.task.doc put.phase mine
   pub few : length mine + calls_left put ≤ 6
+  pub going : end_of put ≡ None → Each (λ m _. LeavesOpen put.task m) mine

@@ -10,8 +10,10 @@ ghost use Rattle.cbt_book.specs.Calls.{GetCalls, WriteCalls, WriteTerms};
 ghost use Rattle.cbt_book.specs.Licence.{MayTake};
 ghost use Rattle.cbt_book.specs.Numbers.{Identity};
 ghost use Rattle.cbt_book.specs.Outcomes.{DoneAt, EndsFailed, is_refusal};
+ghost use Rattle.cbt_book.specs.OwnLists.{Each};
 ghost use Rattle.cbt_book.specs.declared.operations.When.{When};
 ghost use Rattle.cbt_book.specs.declared.operations.When.TheVariants as when;
+ghost use Rattle.cbt_stage.specs.OpenPuts.{LeavesOpen};
 ghost use Rattle.cbt_stage.specs.Phases.{calls_left, end_of, step_of};
 ghost use Rattle.cbt_stage.specs.PutCalls.{PutCalls};
 ghost use Rattle.cbt_stage.specs.Ready.{IsReady};
@@ -53,13 +55,16 @@ pub fn puts_stay_bounded()
 {}
 
 /// A put asks for a call exactly where it has not ended, and exactly where a call is left. While it asks
-/// for the entry of another attempt, its calls so far were readings that showed that entry.
+/// for the entry of another attempt, its calls so far were readings that showed that entry; and while it
+/// has not ended, no call failed and none wrote.
 pub fn puts_go_on()
     ensures ended { (put : Put) → end_of put ≢ None → step_of put ≡ None }
     ensures asks { (put : Put) → end_of put ≡ None → step_of put ≢ None }
     ensures none_left { (put : Put) → calls_left put ≡ 0 ↔ step_of put ≡ None }
     ensures waits { (t : WriteTerms) (put : Put) (mine : List Made) (r by left : ℕ) → StandsFor t put mine
         → put.phase ≡ Phase.Asking r by left → WasAsked put.task r by left mine }
+    ensures leaves_open { (t : WriteTerms) (put : Put) (mine : List Made) → StandsFor t put mine
+        → end_of put ≡ None → Each (λ m _. LeavesOpen put.task m) mine }
 {}
 
 /// The call that a put asks for is one that its client may make next, where the client's own list before

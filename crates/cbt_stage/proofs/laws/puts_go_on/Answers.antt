@@ -8,3 +8,6 @@ returns-clause-none_left c put = (none_left put.task put.phase, none_asked put.t
 
 pub returns-clause-waits : goal.returns-clause-waits
 returns-clause-waits c t put mine r by left stands is = subst (λ p. Knows put.task p mine) is stands.knows
+
+pub returns-clause-leaves_open : goal.returns-clause-leaves_open
+returns-clause-leaves_open c t put mine stands going = stands.going going
