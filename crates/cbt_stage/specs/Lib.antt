@@ -2,5 +2,6 @@ pub mod OpenPuts
 pub mod Phases
 pub mod PutCalls
 pub mod Ready
+pub mod Rewrites
 pub mod Standing
 pub mod Tasks

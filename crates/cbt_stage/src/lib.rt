@@ -2,14 +2,18 @@
 //! a machine: it names its next call, learns the answer, and ends with what became of the write.
 #![tactic(auto)]
 
+mod agains;
 mod ends;
 mod laws;
 mod phases;
 mod puts;
+mod rewrites;
 mod tasks;
 
+pub use agains::Again;
 pub use ends::PutEnd;
 pub use laws::{puts_are_licensed, puts_end_right, puts_go_on, puts_stay_bounded};
 pub use phases::Phase;
 pub use puts::Put;
+pub use rewrites::Rewrite;
 pub use tasks::Task;
