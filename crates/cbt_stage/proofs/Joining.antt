@@ -31,6 +31,10 @@ module _ (P : Made → Type 0) where
   each_both [] r first second = second
   each_both (m ∷ l) r first second = (first.0, each_both l r first.1 second)
 
+pub once_weaker : (P Q : Made → List Made → Type 0) (l : List Made) → ((m : Made) (before : List Made) → Q m before → P m before) → Once Q l → Once P l
+once_weaker P Q [] weaker once = absurd once
+once_weaker P Q (m ∷ l) weaker once = ⊎_elim (λ here. inl (weaker m l here)) (λ later. inr (once_weaker P Q l weaker later)) once
+
 pub each_weaker : (P Q : Made → Type 0) (l : List Made) → ((m : Made) → P m → Q m) → Each (λ m _. P m) l → Each (λ m _. Q m) l
 each_weaker P Q [] weaker each = record {}
 each_weaker P Q (m ∷ l) weaker each = (weaker m each.0, each_weaker P Q l weaker each.1)

@@ -76,7 +76,7 @@ adding_on o mine m is free reply.Failed told fit = record { newest = m; older = 
 adding_on o mine m is free _ told fit = absurd (cc)
 
 -- of the answers that fit a staging those that are left are refusals
-refuses : (e : Expect) (answer : Reply) → fits_stage e answer ≡ true → is_done answer ≡ false → (answer ≡ reply.Failed → ⊥) → is_refusal answer ≡ true
+pub refuses : (e : Expect) (answer : Reply) → fits_stage e answer ≡ true → is_done answer ≡ false → (answer ≡ reply.Failed → ⊥) → is_refusal answer ≡ true
 refuses e reply.Exists fit done failed = refl
 refuses e reply.Absent fit done failed = refl
 refuses e (reply.CasMismatch have) fit done failed = refl

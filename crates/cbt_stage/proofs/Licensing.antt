@@ -20,7 +20,7 @@ use Rattle.cbt_stage.specs.declared.phases.Phase.{Phase}
 use Rattle.cbt_stage.specs.declared.phases.Phase.TheVariants.{Asking, Adding, Staging, Ended}
 use Rattle.cbt_stage.specs.declared.tasks.Task.{Task}
 use Rattle.cbt_stage.proofs.Counting.{some_same, counts, counts_not}
-use Rattle.cbt_stage.proofs.Joining.{once_first, once_second, neither, none_of}
+use Rattle.cbt_stage.proofs.Joining.{once_weaker, once_first, once_second, neither, none_of}
 
 -- what is so of a call in a part of a list is so in the list
 once_in : (P : Made → Type 0) (part l : List Made) → IsPart part l → Once (λ m _. P m) part → Once (λ m _. P m) l
@@ -43,10 +43,6 @@ both_in P Q part (m ∷ l) is once =
 once_before : (P Q : Made → List Made → Type 0) (l : List Made) → ((m : Made) (before : List Made) → Q m before → Once P before) → Once Q l → Once P l
 once_before P Q [] earlier once = absurd once
 once_before P Q (m ∷ l) earlier once = ⊎_elim (λ here. inr (earlier m l here)) (λ later. inr (once_before P Q l earlier later)) once
-
-once_weaker : (P Q : Made → List Made → Type 0) (l : List Made) → ((m : Made) (before : List Made) → Q m before → P m before) → Once Q l → Once P l
-once_weaker P Q [] weaker once = absurd once
-once_weaker P Q (m ∷ l) weaker once = ⊎_elim (λ here. inl (weaker m l here)) (λ later. inr (once_weaker P Q l weaker later)) once
 
 -- a call of the newer list comes behind one of the older
 behind : (P Q : Made → Type 0) (mine l0 : List Made) → Once (λ m _. P m) mine → Once (λ n _. Q n) l0 → Behind P Q (mine ++ l0)

@@ -1,10 +1,14 @@
 //! The machine of one write of a document over the attempt's own write of it.
 
-ghost use Rattle.std.specs.Prelude.{◌≡◌, true, None, Some, IsTrue, IsSome, IfOk, IfSome};
+ghost use Rattle.std.specs.Prelude.{◌≡◌, true, List, [], ◌∷◌, None, Some, IsTrue, IsSome, IfOk, IfSome};
 ghost use Rattle.std.specs.Option.{option_copied};
 ghost use Rattle.cbt_model.specs.Fitting.{content_fits, fits, step_fits};
+ghost use Rattle.cbt_model.specs.declared.events.Made.{Made};
 ghost use Rattle.cbt_model.specs.declared.steps.Step.{Step};
+ghost use Rattle.cbt_book.specs.Calls.{WriteTerms};
+ghost use Rattle.cbt_stage.specs.PutCalls.{terms_of};
 ghost use Rattle.cbt_stage.specs.Rewrites.{asked_by, ended, rewrite_of, CanWriteAgain};
+ghost use Rattle.cbt_stage.specs.Rewriting.{StandsOnce};
 
 use crate::ends::PutEnd;
 use crate::rewrites::Rewrite;
@@ -38,6 +42,7 @@ impl Again {
         requires fits { content_fits kind content ≡ true }
         ensures task { IfOk result (λ again. Some again.task ≡ rewrite_of attempt.now doc kind content) }
         ensures going { IfOk result (λ again. again.end ≡ None) }
+        ensures stands { IfOk result (λ again. StandsOnce (terms_of attempt.now) again []) }
     {
         let task = Rewrite::new(alloc, attempt, doc, kind, content)?;
         Ok(Again { task, end: None })
@@ -58,9 +63,12 @@ impl Again {
     pub fn learn(&mut self, answer: Answer)
         requires asked { IsSome (asked_by self.old) }
         requires fits { (s : Step) → asked_by self.old ≡ Some s → IsTrue (fits s answer.reply) }
-        ensures { self.new ≡ record self.old {
+        ensures end { self.new ≡ record self.old {
           end = Some (ended self.old.task.back answer.place answer.reply);
         } }
+        ensures stands { (t : WriteTerms) (mine : List Made) (s : Step) → asked_by self.old ≡ Some s
+            → StandsOnce t self.old mine
+            → StandsOnce t self.new (record { step = s; answer = answer } ∷ mine) }
     {
         self.end = Some(ended(self.task.back, answer.place, &answer.reply));
     }

@@ -1,9 +1,9 @@
-//! What the calls of a put come to, whatever fitting answers they had. Each function does nothing: what
-//! it ensures is the law. They take no memory.
+//! What the calls of a put, and of a write over an own write, come to, whatever fitting answers they had.
+//! Each function does nothing: what it ensures is the law. They take no memory.
 //!
-//! An attempt writes under the terms `t`, and `mine` are the calls of its put, newest first.
+//! An attempt writes under the terms `t`, and `mine` are the calls of its one write, newest first.
 
-ghost use Rattle.std.specs.Prelude.{◌≡◌, ◌≢◌, ℕ, ◌+◌, ◌≤◌, ◌↔◌, true, List, ◌++◌, length, Some, None};
+ghost use Rattle.std.specs.Prelude.{◌≡◌, ◌≢◌, ℕ, ◌+◌, ◌≤◌, ◌↔◌, true, false, List, [], ◌++◌, length, Some, None};
 ghost use Rattle.cbt_model.specs.declared.events.Made.{Made};
 ghost use Rattle.cbt_model.specs.declared.steps.Step.{Step};
 ghost use Rattle.cbt_book.specs.Calls.{GetCalls, WriteCalls, WriteTerms};
@@ -17,7 +17,10 @@ ghost use Rattle.cbt_stage.specs.OpenPuts.{LeavesOpen};
 ghost use Rattle.cbt_stage.specs.Phases.{calls_left, end_of, step_of};
 ghost use Rattle.cbt_stage.specs.PutCalls.{PutCalls};
 ghost use Rattle.cbt_stage.specs.Ready.{IsReady};
+ghost use Rattle.cbt_stage.specs.Rewrites.{asked_by};
+ghost use Rattle.cbt_stage.specs.Rewriting.{EndsWriting, IsWritten, StandsOnce};
 ghost use Rattle.cbt_stage.specs.Standing.{EndsBlocked, EndsStaging, StandsFor, WasAsked};
+ghost use Rattle.cbt_stage.specs.declared.agains.Again.{Again};
 ghost use Rattle.cbt_stage.specs.declared.phases.Phase.{Phase};
 ghost use Rattle.cbt_stage.specs.declared.puts.Put.{Put};
 
@@ -72,5 +75,44 @@ pub fn puts_go_on()
 pub fn puts_are_licensed()
     ensures { (who : Identity) (t : WriteTerms) (put : Put) (mine l0 : List Made) (s : Step)
         → StandsFor t put mine → IsReady who put.task l0 → step_of put ≡ Some s
+        → MayTake who (mine ++ l0) s }
+{}
+
+/// What a write over an own write has ended with is so by its call: it staged over the own write, took
+/// it back, was refused by the document, or failed.
+pub fn agains_end_right()
+    ensures staged { (t : WriteTerms) (again : Again) (mine : List Made) (place : ℕ) (base : When) → StandsOnce t again mine
+        → again.end ≡ Some (PutEnd.Staged place base)
+        → (again.task.back ≡ false) × (base ≡ when.Own) × EndsWriting again.task (DoneAt place) mine }
+    ensures unstaged { (t : WriteTerms) (again : Again) (mine : List Made) (place : ℕ) → StandsOnce t again mine
+        → again.end ≡ Some (PutEnd.Unstaged place)
+        → (again.task.back ≡ true) × EndsWriting again.task (DoneAt place) mine }
+    ensures moved { (t : WriteTerms) (again : Again) (mine : List Made) → StandsOnce t again mine
+        → again.end ≡ Some PutEnd.Moved
+        → EndsWriting again.task (λ m. is_refusal m.answer.reply ≡ true) mine }
+    ensures failed { (t : WriteTerms) (again : Again) (mine : List Made) (place : ℕ) → StandsOnce t again mine
+        → again.end ≡ Some (PutEnd.CallFailed place) → EndsFailed place mine }
+    // Nobody is waited for.
+    ensures blocked { (t : WriteTerms) (again : Again) (mine : List Made) (by : ℕ) → StandsOnce t again mine
+        → again.end ≢ Some (PutEnd.Blocked by) }
+{}
+
+/// A write over an own write asks for a call exactly where it has not ended, and makes one at most.
+pub fn agains_stay_bounded()
+    ensures calls { (t : WriteTerms) (again : Again) (mine : List Made) → StandsOnce t again mine
+        → WriteCalls t again.task.doc mine }
+    ensures few { (t : WriteTerms) (again : Again) (mine : List Made) → StandsOnce t again mine
+        → length mine ≤ 1 }
+    ensures first { (t : WriteTerms) (again : Again) (mine : List Made) (s : Step) → StandsOnce t again mine
+        → asked_by again ≡ Some s → mine ≡ [] }
+    ensures ended { (again : Again) → again.end ≢ None → asked_by again ≡ None }
+    ensures asks { (again : Again) → again.end ≡ None → asked_by again ≢ None }
+{}
+
+/// The call of a write over an own write is one that its client may make next, where the client's own
+/// list before it, `l0`, shows the own write staged with its stamp and the attempt not decided.
+pub fn agains_are_licensed()
+    ensures { (who : Identity) (t : WriteTerms) (again : Again) (mine l0 : List Made) (s : Step)
+        → StandsOnce t again mine → IsWritten again.task l0 → asked_by again ≡ Some s
         → MayTake who (mine ++ l0) s }
 {}

@@ -12,7 +12,10 @@ mod tasks;
 
 pub use agains::Again;
 pub use ends::PutEnd;
-pub use laws::{puts_are_licensed, puts_end_right, puts_go_on, puts_stay_bounded};
+pub use laws::{
+    agains_are_licensed, agains_end_right, agains_stay_bounded, puts_are_licensed, puts_end_right,
+    puts_go_on, puts_stay_bounded,
+};
 pub use phases::Phase;
 pub use puts::Put;
 pub use rewrites::Rewrite;
