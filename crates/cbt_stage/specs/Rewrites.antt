@@ -85,6 +85,14 @@ asked_for o (Some end) = None
 abbrev pub asked_by : Again → Option Step
 asked_by again = asked_for again.task again.end
 
+-- how many calls are left
+abbrev pub left_for : Option PutEnd → ℕ
+left_for None = 1
+left_for (Some end) = 0
+
+abbrev pub call_left : Again → ℕ
+call_left again = left_for again.end
+
 -- the call was answered Done
 abbrev pub done : Bool → ℕ → PutEnd
 done true place = Unstaged place

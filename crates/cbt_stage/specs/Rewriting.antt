@@ -1,5 +1,5 @@
 -- What the one call of a write over an own write is, and what its client's own list has to show before.
-use Rattle.std.specs.Prelude.{◌≡◌, ◌≤◌, true, false, List, [], ◌∷◌, length, Option, Some, None}
+use Rattle.std.specs.Prelude.{◌≡◌, ◌+◌, ◌≤◌, true, false, List, [], ◌∷◌, length, Option, Some, None}
 use Rattle.cbt_model.specs.declared.documents.Stage.{Stage}
 use Rattle.cbt_model.specs.declared.events.Made.{Made}
 use Rattle.cbt_model.specs.declared.steps.Reply.TheVariants as reply
@@ -8,7 +8,7 @@ use Rattle.cbt_book.specs.Outcomes.{DoneAt, is_refusal}
 use Rattle.cbt_book.specs.OwnLists.{Once}
 use Rattle.cbt_book.specs.Shown.{decides, AddsEntry, StagesAt}
 use Rattle.cbt_book.specs.declared.operations.When.TheVariants as when
-use Rattle.cbt_stage.specs.Rewrites.{call_of}
+use Rattle.cbt_stage.specs.Rewrites.{call_left, call_of}
 use Rattle.cbt_stage.specs.declared.agains.Again.{Again}
 use Rattle.cbt_stage.specs.declared.ends.PutEnd.{PutEnd}
 use Rattle.cbt_stage.specs.declared.ends.PutEnd.TheVariants.{Staged, Unstaged, Blocked, Moved, CallFailed}
@@ -39,7 +39,7 @@ pub record StandsOnce (t : WriteTerms) (again : Again) (mine : List Made) : Type
   pub id_is : again.task.attempt ≡ t.id
   pub knows : KnowsOnce again.task again.end mine
   pub calls : WriteCalls t again.task.doc mine
-  pub few : length mine ≤ 1
+  pub few : length mine + call_left again ≤ 1
 
 -- the attempt's entry stands in its record, and it was not decided; and the document was staged by the attempt at the own write's CAS
 pub record IsWritten (o : Rewrite) (l0 : List Made) : Type 0 where

@@ -1,13 +1,13 @@
 //! The machine of one write of a document over the attempt's own write of it.
 
-ghost use Rattle.std.specs.Prelude.{◌≡◌, true, List, [], ◌∷◌, None, Some, IsTrue, IsSome, IfOk, IfSome};
+ghost use Rattle.std.specs.Prelude.{◌≡◌, ◌<◌, true, List, [], ◌∷◌, None, Some, IsTrue, IsSome, IfOk, IfSome};
 ghost use Rattle.std.specs.Option.{option_copied};
 ghost use Rattle.cbt_model.specs.Fitting.{content_fits, fits, step_fits};
 ghost use Rattle.cbt_model.specs.declared.events.Made.{Made};
 ghost use Rattle.cbt_model.specs.declared.steps.Step.{Step};
 ghost use Rattle.cbt_book.specs.Calls.{WriteTerms};
 ghost use Rattle.cbt_stage.specs.PutCalls.{terms_of};
-ghost use Rattle.cbt_stage.specs.Rewrites.{asked_by, ended, rewrite_of, CanWriteAgain};
+ghost use Rattle.cbt_stage.specs.Rewrites.{asked_by, call_left, ended, rewrite_of, CanWriteAgain};
 ghost use Rattle.cbt_stage.specs.Rewriting.{StandsOnce};
 
 use crate::ends::PutEnd;
@@ -69,6 +69,7 @@ impl Again {
         ensures stands { (t : WriteTerms) (mine : List Made) (s : Step) → asked_by self.old ≡ Some s
             → StandsOnce t self.old mine
             → StandsOnce t self.new (record { step = s; answer = answer } ∷ mine) }
+        ensures fewer { call_left self.new < call_left self.old }
     {
         self.end = Some(ended(self.task.back, answer.place, &answer.reply));
     }

@@ -10,14 +10,15 @@ ghost use Rattle.cbt_book.specs.Calls.{GetCalls, WriteCalls, WriteTerms};
 ghost use Rattle.cbt_book.specs.Licence.{MayTake};
 ghost use Rattle.cbt_book.specs.Numbers.{Identity};
 ghost use Rattle.cbt_book.specs.Outcomes.{DoneAt, EndsFailed, is_refusal};
-ghost use Rattle.cbt_book.specs.OwnLists.{Each};
+ghost use Rattle.cbt_book.specs.OwnLists.{during, Each};
+ghost use Rattle.cbt_book.specs.declared.operations.Span.{Span};
 ghost use Rattle.cbt_book.specs.declared.operations.When.{When};
 ghost use Rattle.cbt_book.specs.declared.operations.When.TheVariants as when;
 ghost use Rattle.cbt_stage.specs.OpenPuts.{LeavesOpen};
 ghost use Rattle.cbt_stage.specs.Phases.{calls_left, end_of, step_of};
 ghost use Rattle.cbt_stage.specs.PutCalls.{PutCalls};
-ghost use Rattle.cbt_stage.specs.Ready.{IsReady};
-ghost use Rattle.cbt_stage.specs.Rewrites.{asked_by};
+ghost use Rattle.cbt_stage.specs.Ready.{IsPart, IsReady};
+ghost use Rattle.cbt_stage.specs.Rewrites.{asked_by, call_left};
 ghost use Rattle.cbt_stage.specs.Rewriting.{EndsWriting, IsWritten, StandsOnce};
 ghost use Rattle.cbt_stage.specs.Standing.{EndsBlocked, EndsStaging, StandsFor, WasAsked};
 ghost use Rattle.cbt_stage.specs.declared.agains.Again.{Again};
@@ -78,6 +79,13 @@ pub fn puts_are_licensed()
         → MayTake who (mine ++ l0) s }
 {}
 
+/// Where a document was read by the newest calls of a list, or by those in a span, it was read by a part of
+/// the list.
+pub fn readings_are_parts()
+    ensures newest { (reads older : List Made) → IsPart reads (reads ++ older) }
+    ensures during { (span : Span) (l : List Made) → IsPart (during span l) l }
+{}
+
 /// What a write over an own write has ended with is so by its call: it staged over the own write, took
 /// it back, was refused by the document, or failed.
 pub fn agains_end_right()
@@ -102,7 +110,8 @@ pub fn agains_stay_bounded()
     ensures calls { (t : WriteTerms) (again : Again) (mine : List Made) → StandsOnce t again mine
         → WriteCalls t again.task.doc mine }
     ensures few { (t : WriteTerms) (again : Again) (mine : List Made) → StandsOnce t again mine
-        → length mine ≤ 1 }
+        → length mine + call_left again ≤ 1 }
+    ensures none_left { (again : Again) → call_left again ≡ 0 ↔ asked_by again ≡ None }
     ensures first { (t : WriteTerms) (again : Again) (mine : List Made) (s : Step) → StandsOnce t again mine
         → asked_by again ≡ Some s → mine ≡ [] }
     ensures ended { (again : Again) → again.end ≢ None → asked_by again ≡ None }

@@ -14,7 +14,7 @@ pub use agains::Again;
 pub use ends::PutEnd;
 pub use laws::{
     agains_are_licensed, agains_end_right, agains_stay_bounded, puts_are_licensed, puts_end_right,
-    puts_go_on, puts_stay_bounded,
+    puts_go_on, puts_stay_bounded, readings_are_parts,
 };
 pub use phases::Phase;
 pub use puts::Put;

@@ -48,6 +48,7 @@ impl Put {
         ensures task { result.task ≡ task_of attempt.now doc kind content seen }
         ensures phase { result.phase ≡ start (task_of attempt.now doc kind content seen) }
         ensures stands { StandsFor (terms_of attempt.now) result [] }
+        ensures left { calls_left result ≤ 6 }
     {
         let task = Task::new(attempt, doc, kind, content, seen);
         let phase = Phase::start(&task);
