@@ -8,8 +8,11 @@ use Rattle.cbt_model.specs.declared.steps.Reply.{Reply}
 use Rattle.cbt_model.specs.declared.steps.Step.{Step}
 use Rattle.cbt_model.specs.declared.steps.Step.TheVariants as step
 use Rattle.cbt_book.specs.Calls.{reads_doc, reads_entry, adds_entry, writes_doc, count_met, doc_reply, stagings_met, MayGet, MayWrite, WriteTerms, GetCalls, WriteCalls}
+use Rattle.cbt_book.specs.Outcomes.{AskedFourTimes, EndsFailed}
 use Rattle.cbt_book.specs.OwnLists.{Once, Each}
 use Rattle.cbt_stage.specs.PutCalls.{PutCalls}
+use Rattle.cbt_stage.specs.Standing.{EndsStaging}
+use Rattle.cbt_stage.specs.declared.tasks.Task.{Task}
 use Rattle.cbt_stage.proofs.Counting.{counts_not}
 
 -- what is so of a call in one of two lists
@@ -120,3 +123,22 @@ no_calls d = record { only = record {}; readings = omega arith; entries = omega 
 -- a write without a get
 pub own_calls : (t : WriteTerms) (d : List ℕ) (mine : List Made) → PutCalls t d mine → WriteCalls t d mine
 own_calls t d mine put = subst (λ l. WriteCalls t d l) (append-nil mine) (write_calls t d mine [] put (no_calls d))
+
+-- what the calls of a put come to they come to behind those of a get
+pub staging_behind : (o : Task) (P : Made → Type 0) (mine reads : List Made) → EndsStaging o P mine → EndsStaging o P (mine ++ reads)
+staging_behind o P mine reads it =
+    record {
+      newest = it.newest;
+      older = it.older ++ reads;
+      calls_are = ap (λ l. l ++ reads) it.calls_are;
+      stages_write = it.stages_write;
+      answered = it.answered;
+    }
+
+pub blocked_behind : (r by : ℕ) (mine reads : List Made) → AskedFourTimes r by [] mine → AskedFourTimes r by reads (mine ++ reads)
+blocked_behind r by mine reads it =
+    record { asked = it.asked; calls_are = ap (λ l. l ++ reads) (it.calls_are ∙ append-nil it.asked); four = it.four; shown = it.shown }
+
+pub failed_behind : (place : ℕ) (mine reads : List Made) → EndsFailed place mine → EndsFailed place (mine ++ reads)
+failed_behind place mine reads it =
+    record { newest = it.newest; older = it.older ++ reads; calls_are = ap (λ l. l ++ reads) it.calls_are; failed = it.failed; place_is = it.place_is }

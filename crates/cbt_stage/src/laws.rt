@@ -9,7 +9,7 @@ ghost use Rattle.cbt_model.specs.declared.steps.Step.{Step};
 ghost use Rattle.cbt_book.specs.Calls.{GetCalls, WriteCalls, WriteTerms};
 ghost use Rattle.cbt_book.specs.Licence.{MayTake};
 ghost use Rattle.cbt_book.specs.Numbers.{Identity};
-ghost use Rattle.cbt_book.specs.Outcomes.{DoneAt, EndsFailed, is_refusal};
+ghost use Rattle.cbt_book.specs.Outcomes.{AskedFourTimes, DoneAt, EndsFailed, is_refusal};
 ghost use Rattle.cbt_book.specs.OwnLists.{during, Each};
 ghost use Rattle.cbt_book.specs.declared.operations.Span.{Span};
 ghost use Rattle.cbt_book.specs.declared.operations.When.{When};
@@ -24,6 +24,7 @@ ghost use Rattle.cbt_stage.specs.Standing.{EndsBlocked, EndsStaging, StandsFor, 
 ghost use Rattle.cbt_stage.specs.declared.agains.Again.{Again};
 ghost use Rattle.cbt_stage.specs.declared.phases.Phase.{Phase};
 ghost use Rattle.cbt_stage.specs.declared.puts.Put.{Put};
+ghost use Rattle.cbt_stage.specs.declared.tasks.Task.{Task};
 
 use crate::ends::PutEnd;
 
@@ -43,6 +44,17 @@ pub fn puts_end_right()
     // Nothing is taken back.
     ensures unstaged { (t : WriteTerms) (put : Put) (mine : List Made) (place : ℕ) → StandsFor t put mine
         → end_of put ≢ Some (PutEnd.Unstaged place) }
+{}
+
+/// What the calls of a put come to they come to also where the readings of a get stand before them.
+pub fn puts_end_behind_gets()
+    ensures staged { (o : Task) (place : ℕ) (mine reads : List Made) → EndsStaging o (DoneAt place) mine
+        → EndsStaging o (DoneAt place) (mine ++ reads) }
+    ensures moved { (o : Task) (mine reads : List Made) → EndsStaging o (λ m. is_refusal m.answer.reply ≡ true) mine
+        → EndsStaging o (λ m. is_refusal m.answer.reply ≡ true) (mine ++ reads) }
+    ensures blocked { (r by : ℕ) (mine reads : List Made) → AskedFourTimes r by [] mine
+        → AskedFourTimes r by reads (mine ++ reads) }
+    ensures failed { (place : ℕ) (mine reads : List Made) → EndsFailed place mine → EndsFailed place (mine ++ reads) }
 {}
 
 /// After each call a put has made only the calls of a write, few of each kind, and has so many left that
@@ -79,8 +91,8 @@ pub fn puts_are_licensed()
         → MayTake who (mine ++ l0) s }
 {}
 
-/// Where a document was read by the newest calls of a list, or by those in a span, it was read by a part of
-/// the list.
+/// The newest calls of a list, and its calls in a span, are a part of it: a put may stand on a reading by
+/// either.
 pub fn readings_are_parts()
     ensures newest { (reads older : List Made) → IsPart reads (reads ++ older) }
     ensures during { (span : Span) (l : List Made) → IsPart (during span l) l }

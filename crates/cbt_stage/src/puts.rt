@@ -18,7 +18,7 @@ use cbt_attempt::{Attempt, Own};
 use cbt_base::{DocId, NoMemory};
 use cbt_book::Seen;
 use cbt_json::Json;
-use cbt_model::{Answer, OpKind, Reply, Step};
+use cbt_model::{Answer, OpKind, Step};
 use std::alloc::Global;
 
 /// One write of a document, over what was read of it. It asks for a call, learns the answer, and so

@@ -1,9 +1,7 @@
 //! What a write over an own write is begun with.
 
 ghost use Rattle.std.specs.Prelude.{◌≡◌, true, Some, IfOk, IsTrue};
-ghost use Rattle.std.specs.Option.{IsSome};
 ghost use Rattle.cbt_model.specs.Fitting.{content_fits, step_fits};
-ghost use Rattle.cbt_attempt.specs.declared.own.Own.{Own};
 ghost use Rattle.cbt_stage.specs.Rewrites.{call_of, kind_over, rewrite_of, takes_back, written_over, CanWriteAgain};
 
 use cbt_attempt::{Attempt, Own};
