@@ -1,0 +1,26 @@
+use Rattle.std.proofs.Common.{rules, ◌≡◌, slice_get, Option, Some, None, IsSome, sym, subst}
+use Rattle.cbt_attempt.specs.OwnWrites.{noted}
+use Rattle.cbt_commit.specs.Ready.{written_of}
+use Rattle.cbt_commit.specs.Written.{Written}
+use Rattle.cbt_commit.proofs.Copying.{copied_on, copied_all, always_written}
+use Rattle.cbt_commit.proofs.works.works_of.Goals as goal
+
+pub returns-in_default : goal.returns-in_default
+returns-in_default c =
+    let past : slice_get c.args.attempt.now.writes c.loop-at.at ≡ None = search rules in
+    copied_all c.args.attempt.now.writes c.loop-at.at c.loop-at.works.entries past c.loop-at.invariant
+
+pub unwrap-work-requires : goal.unwrap-work-requires
+unwrap-work-requires c =
+    let writes = c.args.attempt.now.writes in
+    let found : slice_get writes c.loop-at.at ≡ Some (c.in-Some.doc.now, c.in-Some.field-0-1.now) = search rules in
+    subst (λ (work : Option Written). IsSome work) (sym c.in_ok-work_of.ensures)
+    (always_written writes c.loop-at.at (c.in-Some.doc.now, c.in-Some.field-0-1.now) found c.requires)
+
+pub loop-at-preserved : goal.loop-at-preserved
+loop-at-preserved c =
+    let writes = c.args.attempt.now.writes in
+    let found : slice_get writes c.loop-at.at ≡ Some (c.in_ok-copy.field-0, c.in-Some.field-0-1.now) = search rules in
+    let is_written : written_of (noted writes c.in_ok-copy.field-0) ≡ Some c.unwrap-work.result = search rules in
+    copied_on writes c.loop-at.at c.loop-at.works.entries c.insert.new.self.entries (c.in_ok-copy.field-0, c.in-Some.field-0-1.now) c.unwrap-work.result found is_written
+    c.in_ok-insert.ensures.updates.0 c.in_ok-insert.ensures.unique c.loop-at.invariant

@@ -1,0 +1,5 @@
+pub mod Written
+pub mod Phases
+pub mod Moves
+pub mod Ready
+pub mod Standing

@@ -1,0 +1,46 @@
+-- What a commit needs of the attempt that it was begun with, and of its client's own list before.
+use Rattle.std.specs.Prelude.{◌≡◌, ℕ, List, slice_get, Option, Some, None, IsSome}
+use Rattle.cbt_model.specs.History.{commits}
+use Rattle.cbt_model.specs.declared.events.Made.{Made}
+use Rattle.cbt_attempt.specs.Notes.{NotesAll}
+use Rattle.cbt_attempt.specs.OwnWrites.{NamesByKind}
+use Rattle.cbt_attempt.specs.declared.own.Own.{Own}
+use Rattle.cbt_book.specs.OwnLists.{Once}
+use Rattle.cbt_book.specs.Shown.{AddsEntry, aborts}
+use Rattle.cbt_commit.specs.Phases.{Task}
+use Rattle.cbt_commit.specs.Written.{Written}
+
+-- the CAS of each own write is known
+abbrev pub HasStamps : (List ℕ → Option Own) → Type 0
+HasStamps own = (d : List ℕ) (v : Own) → own d ≡ Some v → IsSome v.cas
+
+-- what was staged, with its CAS where that is known
+abbrev pub written_at : Own → Option ℕ → Option Written
+written_at v None = None
+written_at v (Some x) = Some (record { cas = x; content = v.content })
+
+abbrev pub written_of : Option Own → Option Written
+written_of None = None
+written_of (Some v) = written_at v v.cas
+
+-- the works are just the own writes that are noted, each document once
+pub record CopiesNotes (own : List ℕ → Option Own) (works : List (List ℕ × Written)) : Type 0 where
+  pub noted : (at : ℕ) (w : List ℕ × Written) → slice_get works at ≡ Some w
+      → (v : Own) × (own w.0 ≡ Some v) × (v.cas ≡ Some w.1.cas) × (v.content ≡ w.1.content)
+  pub all : (d : List ℕ) (v : Own) → own d ≡ Some v → (at : ℕ) × (w : List ℕ × Written) × (slice_get works at ≡ Some w) × (w.0 ≡ d)
+  pub apart : (i j : ℕ) (v w : List ℕ × Written) → slice_get works i ≡ Some v → slice_get works j ≡ Some w → v.0 ≡ w.0 → i ≡ j
+
+-- a commit was begun with an attempt that has noted these own writes: its works are theirs, and its lists name them by kind
+pub record IsOf (own : List ℕ → Option Own) (t : Task) : Type 0 where
+  pub works : CopiesNotes own t.works
+  pub lists : NamesByKind own t.lists
+
+-- the client's own list before the commit: what the attempt has noted is right, its entry was added, and it was neither aborted
+-- nor committed
+pub record IsReady (t : Task) (l : List Made) : Type 0 where
+  pub own : List ℕ → Option Own
+  pub is_of : IsOf own t
+  pub notes : NotesAll t.attempt t.atr own l
+  pub added : Once (λ m _. AddsEntry t.atr t.attempt m) l
+  pub unaborted : ¬ Once (λ m _. aborts m.step ≡ Some t.attempt) l
+  pub uncommitted : ¬ Once (λ m _. commits m.step ≡ Some t.attempt) l
