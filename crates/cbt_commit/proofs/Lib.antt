@@ -1,3 +1,6 @@
 pub mod Copying
 pub mod Moving
 pub mod Bounds
+pub mod OwnCalls
+pub mod Knowing
+pub mod ClosingCalls

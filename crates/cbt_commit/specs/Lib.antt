@@ -1,5 +1,6 @@
 pub mod Written
 pub mod Phases
+pub mod Ends
 pub mod Moves
 pub mod Ready
 pub mod Standing
