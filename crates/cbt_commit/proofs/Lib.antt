@@ -4,3 +4,4 @@ pub mod Bounds
 pub mod OwnCalls
 pub mod Knowing
 pub mod ClosingCalls
+pub mod Licensing

@@ -35,12 +35,16 @@ pub record IsOf (own : List ℕ → Option Own) (t : Task) : Type 0 where
   pub works : CopiesNotes own t.works
   pub lists : NamesByKind own t.lists
 
--- the client's own list before the commit: what the attempt has noted is right, its entry was added, and it was neither aborted
--- nor committed
+-- all has gone well for attempt a so far, by its client's own list: what it has noted of its own writes is right, its entry was
+-- added to record r, and it was neither aborted nor committed
+pub record GoesWell (own : List ℕ → Option Own) (r a : ℕ) (l : List Made) : Type 0 where
+  pub notes : NotesAll a r own l
+  pub added : Once (λ m _. AddsEntry r a m) l
+  pub unaborted : ¬ Once (λ m _. aborts m.step ≡ Some a) l
+  pub uncommitted : ¬ Once (λ m _. commits m.step ≡ Some a) l
+
+-- the client's own list before the commit is as it needs it
 pub record IsReady (t : Task) (l : List Made) : Type 0 where
   pub own : List ℕ → Option Own
   pub is_of : IsOf own t
-  pub notes : NotesAll t.attempt t.atr own l
-  pub added : Once (λ m _. AddsEntry t.atr t.attempt m) l
-  pub unaborted : ¬ Once (λ m _. aborts m.step ≡ Some t.attempt) l
-  pub uncommitted : ¬ Once (λ m _. commits m.step ≡ Some t.attempt) l
+  pub well : GoesWell own t.atr t.attempt l

@@ -7,7 +7,7 @@ ghost use Rattle.cbt_model.specs.declared.events.Made.{Made};
 ghost use Rattle.cbt_model.specs.declared.steps.Step.{Step};
 ghost use Rattle.cbt_attempt.specs.OwnWrites.{lists_of, noted};
 ghost use Rattle.cbt_commit.specs.Phases.{after, calls_left, end_of, step_of, task_of};
-ghost use Rattle.cbt_commit.specs.Ready.{HasStamps, IsOf};
+ghost use Rattle.cbt_commit.specs.Ready.{GoesWell, HasStamps, IsOf, IsReady};
 ghost use Rattle.cbt_commit.specs.Standing.{StandsFor};
 
 use crate::phases::{FinishEnd, Phase, after_commit, after_drop, after_reading, after_unstage};
@@ -49,6 +49,8 @@ impl Finish {
         // The works are the own writes, and the lists name them.
         ensures own { IfOk result (λ finish. IsOf (noted attempt.now.writes) (task_of finish)) }
         ensures stands { IfOk result (λ finish. StandsFor finish []) }
+        ensures ready { IfOk result (λ finish. (l : List Made)
+            → GoesWell (noted attempt.now.writes) finish.atr finish.attempt l → IsReady (task_of finish) l) }
     {
         let atr = attempt.sent().unwrap();
         let lists = attempt.lists(alloc)?;

@@ -1,12 +1,16 @@
 //! What the calls of a commit come to, whatever fitting answers they had. Each function does nothing:
 //! what it ensures is the law. They take no memory.
 
-ghost use Rattle.std.specs.Prelude.{◌≡◌, ◌≢◌, ℕ, ◌+◌, ◌≤◌, Bool, List, length, Some, None};
+ghost use Rattle.std.specs.Prelude.{◌≡◌, ◌≢◌, ℕ, ◌+◌, ◌≤◌, Bool, List, ◌++◌, length, Some, None};
 ghost use Rattle.cbt_model.specs.declared.events.Made.{Made};
+ghost use Rattle.cbt_model.specs.declared.steps.Step.{Step};
 ghost use Rattle.cbt_book.specs.Closing.{CommitHolds, IsFinished, MayClose, ThirdInVain};
+ghost use Rattle.cbt_book.specs.Licence.{MayTake};
+ghost use Rattle.cbt_book.specs.Numbers.{Identity};
 ghost use Rattle.cbt_book.specs.OwnLists.{Each};
 ghost use Rattle.cbt_commit.specs.Ends.{IsLastInDoubt, LosesEntry, OnlySettles, StaysUnknown};
-ghost use Rattle.cbt_commit.specs.Phases.{calls_left, end_of, step_of};
+ghost use Rattle.cbt_commit.specs.Phases.{calls_left, end_of, step_of, task_of};
+ghost use Rattle.cbt_commit.specs.Ready.{IsReady};
 ghost use Rattle.cbt_commit.specs.Standing.{StandsFor};
 ghost use Rattle.cbt_commit.specs.declared.finishes.Finish.{Finish};
 
@@ -35,6 +39,13 @@ pub fn commits_end_right()
 pub fn commits_close()
     ensures { (finish : Finish) (mine : List Made) → StandsFor finish mine
         → Each (λ m past. MayClose finish.attempt past m.step) mine }
+{}
+
+/// Each call that a commit asks for is licensed by its client's whole own list, where all had gone well
+/// for the attempt before it began.
+pub fn commits_are_licensed()
+    ensures { (who : Identity) (finish : Finish) (l0 mine : List Made) (s : Step) → IsReady (task_of finish) l0
+        → StandsFor finish mine → step_of finish ≡ Some s → MayTake who (mine ++ l0) s }
 {}
 
 /// After each call a commit of n own writes has so many calls left that it makes at most n + 7. None is
