@@ -1,5 +1,5 @@
 -- The works of a commit are the own writes of its attempt.
-use Rattle.std.proofs.Common.{◌≡◌, ◌≢◌, IsSome, ℕ, zero, suc, ◌+◌, ◌<◌, ◌≤◌, ◌==◌, Bool, true, false, cond, ◌⊎◌, inl, inr, ⊎_elim, List, [], ◌∷◌, length, slice_get, Option, Some, None, refl, ap, sym, ◌∙◌, subst, arith}
+use Rattle.std.proofs.Common.{◌≡◌, ◌≢◌, IsSome, ℕ, zero, suc, ◌+◌, ◌<◌, ◌≤◌, ◌==◌, Bool, true, false, cond, ◌⊎◌, inl, inr, ⊎_elim, List, [], ◌∷◌, length, drop, slice_get, Option, Some, None, refl, ap, sym, ◌∙◌, subst, arith}
 use Rattle.std.proofs.lemmas.Map.Entries.{place_from_lookup, lookup_from_place}
 use Rattle.std.proofs.lemmas.Map.Keys.{IsDistinct-head, IsDistinct-tail}
 use Rattle.std.proofs.lemmas.Option.{none-some, slice_get_within, slice_get_cases}
@@ -8,10 +8,11 @@ use Rattle.std.specs.Cmp.{IsEquivalence}
 use Rattle.std.specs.List.{IsDistinct, AllByRecursion}
 use Rattle.std.specs.Map.{lookup, keys_of}
 use Rattle.std.specs.Str.{bytes_eq}
+use Rattle.indexmap.specs.IndexMap.{insert_entry}
 use Rattle.cbt_attempt.specs.OwnWrites.{noted}
 use Rattle.cbt_attempt.specs.declared.own.Own.{Own}
 use Rattle.cbt_commit.specs.Phases.{Task}
-use Rattle.cbt_commit.specs.Ready.{HasStamps, written_at, written_of, CopiesNotes, IsOf}
+use Rattle.cbt_commit.specs.Ready.{HasStamps, written_at, written_of, with_copy, copied_behind, copied, CopiesNotes, IsOf}
 use Rattle.cbt_commit.specs.Standing.{IsListedOnce}
 use Rattle.cbt_commit.specs.Written.{Written}
 
@@ -100,7 +101,7 @@ copied_none writes works none unique = record {
 pub copied_on : (writes : List (List ℕ × Own)) (at : ℕ) (old new : List Work) (e : List ℕ × Own) (c : Written) → slice_get writes at ≡ Some e
     → written_of (noted writes e.0) ≡ Some c → ((q : List ℕ) → lookup (bytes_eq q) new ≡ cond (bytes_eq e.0 q) (Some c) (lookup (bytes_eq q) old))
     → IsDistinct bytes_eq (keys_of new) → CopiedUpTo writes at old → CopiedUpTo writes (at + 1) new
-copied_on writes at old new e c found is_written updates unique copied = record {
+copied_on writes at old new e c found is_written updates unique upto = record {
   unique = unique;
   kept = λ q s is. kept_by q s (bytes_eq e.0 q) refl (sym (updates q) ∙ is);
   has = λ j f before is. has_by j f before is (bytes_eq e.0 f.0) refl;
@@ -115,13 +116,13 @@ copied_on writes at old new e c found is_written updates unique copied = record 
         let parts = written_parts its.0 its.0.cas s refl
         (sym (ap written_of its.1) ∙ is_written ∙ (sym (ap (λ b. cond b (Some c) (lookup (bytes_eq q) old)) same) ∙ is)) in
         (its.0, ap (λ u. noted writes u) (sym (same_text e.0 q same)) ∙ its.1, parts.0, parts.1)
-    kept_by q s false other is = copied.kept q s (sym (ap (λ b. cond b (Some c) (lookup (bytes_eq q) old)) other) ∙ is)
+    kept_by q s false other is = upto.kept q s (sym (ap (λ b. cond b (Some c) (lookup (bytes_eq q) old)) other) ∙ is)
 
     has_by : (j : ℕ) (f : List ℕ × Own) → j < at + 1 → slice_get writes j ≡ Some f → (b : Bool) → bytes_eq e.0 f.0 ≡ b
         → (s : Written) × (lookup (bytes_eq f.0) new ≡ Some s)
     has_by j f before is true same = (c, updates f.0 ∙ ap (λ b. cond b (Some c) (lookup (bytes_eq f.0) old)) same)
     has_by j f before is false other =
-        let it = copied.has j f (earlier (j == at) refl) is in
+        let it = upto.has j f (earlier (j == at) refl) is in
         (it.0, updates f.0 ∙ ap (λ b. cond b (Some c) (lookup (bytes_eq f.0) old)) other ∙ it.1)
       where
         that_place : j ≡ at → ⊥
@@ -144,10 +145,10 @@ always_written writes at e found known =
     by v (Some x) some = refl
 
 pub copied_all : (writes : List (List ℕ × Own)) (at : ℕ) (works : List Work) → slice_get writes at ≡ None → CopiedUpTo writes at works → CopiesNotes (noted writes) works
-copied_all writes at works past copied = record {
-  noted = λ j w is. copied.kept w.0 w.1 (lookup_from_place bytes_equiv works j w.0 w.1 copied.unique is);
+copied_all writes at works past upto = record {
+  known = λ j w is. upto.kept w.0 w.1 (lookup_from_place bytes_equiv works j w.0 w.1 upto.unique is);
   all = all_of;
-  apart = one_place works copied.unique;
+  apart = one_place works upto.unique;
 }
   where
     beyond : length writes ≤ at
@@ -160,12 +161,62 @@ copied_all writes at works past copied = record {
     all_of d v is =
         let place = place_from_lookup (bytes_eq d) writes v is in
         let within : place.0 < length writes = slice_get_within writes place.0 (place.1, v) place.2 in
-        let it = copied.has place.0 (place.1, v) (before place.0 (length writes) within beyond) place.2 in
+        let it = upto.has place.0 (place.1, v) (before place.0 (length writes) within beyond) place.2 in
         let at_key = place_from_lookup (bytes_eq place.1) works it.0 it.1 in
         (at_key.0, (at_key.1, it.0), at_key.2, sym (same_text place.1 at_key.1 at_key.3) ∙ sym (same_text d place.1 place.3))
+
+-- what is copied and what is left to copy make the whole
+pub rest_on : (writes : List (List ℕ × Own)) (at : ℕ) (old new whole : List Work) (e : List ℕ × Own) (c : Written) → slice_get writes at ≡ Some e
+    → written_of (noted writes e.0) ≡ Some c → new ≡ insert_entry bytes_eq old e.0 c → copied_behind (noted writes) old (drop at writes) ≡ whole
+    → copied_behind (noted writes) new (drop (at + 1) writes) ≡ whole
+rest_on writes at old new whole e c found is_written inserted rest =
+    let left : drop at writes ≡ e ∷ drop (at + 1) writes = drop_next writes at e found ∙ ap (λ k. e ∷ drop k writes) (up at) in
+    ap (λ ws. copied_behind (noted writes) ws (drop (at + 1) writes)) (inserted ∙ sym (ap (with_copy old e.0) is_written))
+    ∙ sym (ap (copied_behind (noted writes) old) left) ∙ rest
+  where
+    up : (n : ℕ) → suc n ≡ n + 1
+    up n = omega arith
+
+    drop_next : (ws : List (List ℕ × Own)) (k : ℕ) (f : List ℕ × Own) → slice_get ws k ≡ Some f → drop k ws ≡ f ∷ drop (suc k) ws
+    drop_next [] k f is = absurd (none-some f is)
+    drop_next (w ∷ ws) zero f is = ap (λ u. u ∷ ws) (some_same is)
+    drop_next (w ∷ ws) (suc k) f is = drop_next ws k f is
+
+pub rest_none : (writes : List (List ℕ × Own)) (at : ℕ) (works whole : List Work) → slice_get writes at ≡ None
+    → copied_behind (noted writes) works (drop at writes) ≡ whole → works ≡ whole
+rest_none writes at works whole past rest =
+    sym (ap (copied_behind (noted writes) works) (drop_past writes at past)) ∙ rest
+  where
+    drop_past : (ws : List (List ℕ × Own)) (k : ℕ) → slice_get ws k ≡ None → drop k ws ≡ []
+    drop_past [] zero is = refl
+    drop_past [] (suc k) is = refl
+    drop_past (w ∷ ws) zero is = absurd (none-some w (sym is))
+    drop_past (w ∷ ws) (suc k) is = drop_past ws k is
+
+-- there are no more works than own writes
+copy_adds : (works : List Work) (d : List ℕ) (c : Written) → length (insert_entry bytes_eq works d c) ≤ length works + 1
+copy_adds [] d c = omega arith
+copy_adds (w ∷ works) d c = by (bytes_eq d w.0) (copy_adds works d c)
+  where
+    by : (b : Bool) → length (insert_entry bytes_eq works d c) ≤ length works + 1
+        → length (cond b ((w.0, c) ∷ works) (w ∷ insert_entry bytes_eq works d c)) ≤ suc (length works) + 1
+    by true few = omega arith
+    by false few = omega arith
+
+copies_add : (own : List ℕ → Option Own) (works : List Work) (writes : List (List ℕ × Own)) → length (copied_behind own works writes) ≤ length works + length writes
+copies_add own works [] = omega arith
+copies_add own works (w ∷ writes) = by (λ ws. copies_add own ws writes) (written_of (own w.0))
+  where
+    by : ((ws : List Work) → length (copied_behind own ws writes) ≤ length ws + length writes) → (o : Option Written)
+        → length (copied_behind own (with_copy works w.0 o) writes) ≤ length works + suc (length writes)
+    by few None = let it = few works in omega arith
+    by few (Some c) = let it = few (insert_entry bytes_eq works w.0 c) in let one = copy_adds works w.0 c in omega arith
+
+pub few_works : (writes : List (List ℕ × Own)) → length (copied writes) ≤ length writes
+few_works writes = let few = copies_add (noted writes) [] writes in omega arith
 
 pub listed_once : (own : List ℕ → Option Own) (t : Task) → IsOf own t → IsListedOnce t
 listed_once own t is_of = record {
   apart = is_of.works.apart;
-  listed = λ at w found. let it = is_of.works.noted at w found in (it.0.kind, (is_of.lists it.0.kind w.0).1 (it.0, it.1, refl));
+  listed = λ at w found. let it = is_of.works.known at w found in (it.0.kind, (is_of.lists it.0.kind w.0).1 (it.0, it.1, refl));
 }

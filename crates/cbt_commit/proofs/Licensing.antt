@@ -171,7 +171,7 @@ module _ (t : Task) where
   holds_on l0 ready m l _ _ (gives_up commit e reads apart) it was = record {}
   holds_on l0 ready m l _ _ (stays_unknown left commit is unshown) it was = record {}
   holds_on l0 ready m l _ _ (publishes commit at w here is off) it was =
-      let own = ready.is_of.works.noted at w here in
+      let own = ready.is_of.works.known at w here in
       cleared_more ready.own m l at w own.0 it own.1 own.2 here is off was
   holds_on l0 ready m l _ _ (drops commit at past is dropped) it was = record {}
   holds_on l0 ready m l _ _ (fails commit at asked failed) it was = record {}
@@ -187,7 +187,7 @@ module _ (t : Task) where
   module _ (l0 : List Made) (ready : IsReady t l0) (who : Identity) (l : List Made) (it : IsNoted ready.own l) where
     may_resolve : (at : ℕ) (w : List ℕ × Written) (content : Option Json) → slice_get t.works at ≡ Some w → w.1.content ≡ content → Clearing at l → MayResolve l w.0 w.1.cas content
     may_resolve at w content here is was =
-        let own = ready.is_of.works.noted at w here in
+        let own = ready.is_of.works.known at w here in
         record {
           stage = stage_of t.attempt t.atr own.0;
           staged = kept_once (λ k _. StagesAt w.0 w.1.cas (stage_of t.attempt t.atr own.0) k) (λ k _. ShowsStaged w.0 w.1.cas (stage_of t.attempt t.atr own.0) k)

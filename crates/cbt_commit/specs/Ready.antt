@@ -1,9 +1,10 @@
 -- What a commit needs of the attempt that it was begun with, and of its client's own list before.
-use Rattle.std.specs.Prelude.{◌≡◌, ℕ, List, slice_get, Option, Some, None, IsSome}
+use Rattle.std.specs.Prelude.{◌≡◌, ℕ, List, [], ◌∷◌, slice_get, Option, Some, None, IsSome, bytes_eq}
+use Rattle.indexmap.specs.IndexMap.{insert_entry}
 use Rattle.cbt_model.specs.History.{commits}
 use Rattle.cbt_model.specs.declared.events.Made.{Made}
 use Rattle.cbt_attempt.specs.Notes.{NotesAll}
-use Rattle.cbt_attempt.specs.OwnWrites.{NamesByKind}
+use Rattle.cbt_attempt.specs.OwnWrites.{noted, NamesByKind}
 use Rattle.cbt_attempt.specs.declared.own.Own.{Own}
 use Rattle.cbt_book.specs.OwnLists.{Once}
 use Rattle.cbt_book.specs.Shown.{AddsEntry, aborts}
@@ -23,9 +24,23 @@ abbrev pub written_of : Option Own → Option Written
 written_of None = None
 written_of (Some v) = written_at v v.cas
 
+-- a staging is put behind those that are copied
+abbrev pub with_copy : List (List ℕ × Written) → List ℕ → Option Written → List (List ℕ × Written)
+with_copy works d None = works
+with_copy works d (Some w) = insert_entry bytes_eq works d w
+
+-- the stagings of these documents, in their order, behind those that are copied
+abbrev pub copied_behind : (List ℕ → Option Own) → List (List ℕ × Written) → List (List ℕ × Own) → List (List ℕ × Written)
+copied_behind own works [] = works
+copied_behind own works (w ∷ writes) = copied_behind own (with_copy works w.0 (written_of (own w.0))) writes
+
+-- what was staged by these own writes, in their order
+abbrev pub copied : List (List ℕ × Own) → List (List ℕ × Written)
+copied writes = copied_behind (noted writes) [] writes
+
 -- the works are just the own writes that are noted, each document once
 pub record CopiesNotes (own : List ℕ → Option Own) (works : List (List ℕ × Written)) : Type 0 where
-  pub noted : (at : ℕ) (w : List ℕ × Written) → slice_get works at ≡ Some w
+  pub known : (at : ℕ) (w : List ℕ × Written) → slice_get works at ≡ Some w
       → (v : Own) × (own w.0 ≡ Some v) × (v.cas ≡ Some w.1.cas) × (v.content ≡ w.1.content)
   pub all : (d : List ℕ) (v : Own) → own d ≡ Some v → (at : ℕ) × (w : List ℕ × Written) × (slice_get works at ≡ Some w) × (w.0 ≡ d)
   pub apart : (i j : ℕ) (v w : List ℕ × Written) → slice_get works i ≡ Some v → slice_get works j ≡ Some w → v.0 ≡ w.0 → i ≡ j

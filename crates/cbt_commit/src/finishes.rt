@@ -1,13 +1,13 @@
 //! The machine that commits one attempt.
 
-ghost use Rattle.std.specs.Prelude.{◌≡◌, ◌<◌, [], ◌∷◌, List, Some, None, IsTrue, IsSome, IfOk, IfSome};
+ghost use Rattle.std.specs.Prelude.{◌≡◌, ◌<◌, ◌≤◌, [], ◌∷◌, List, length, Some, None, IsTrue, IsSome, IfOk, IfSome};
 ghost use Rattle.std.specs.Option.{option_copied};
 ghost use Rattle.cbt_model.specs.Fitting.{fits, step_fits};
 ghost use Rattle.cbt_model.specs.declared.events.Made.{Made};
 ghost use Rattle.cbt_model.specs.declared.steps.Step.{Step};
 ghost use Rattle.cbt_attempt.specs.OwnWrites.{lists_of, noted};
 ghost use Rattle.cbt_commit.specs.Phases.{after, calls_left, end_of, step_of, task_of};
-ghost use Rattle.cbt_commit.specs.Ready.{GoesWell, HasStamps, IsOf, IsReady};
+ghost use Rattle.cbt_commit.specs.Ready.{copied, GoesWell, HasStamps, IsOf, IsReady};
 ghost use Rattle.cbt_commit.specs.Standing.{StandsFor};
 
 use crate::phases::{FinishEnd, Phase, after_commit, after_drop, after_reading, after_unstage};
@@ -45,6 +45,8 @@ impl Finish {
         ensures attempt { IfOk result (λ finish. finish.attempt ≡ attempt.now.id) }
         ensures atr { IfOk result (λ finish. Some finish.atr ≡ attempt.now.sent) }
         ensures lists { IfOk result (λ finish. finish.lists ≡ lists_of attempt.now.writes) }
+        ensures works { IfOk result (λ finish. finish.works.entries ≡ copied attempt.now.writes) }
+        ensures few { IfOk result (λ finish. length finish.works.entries ≤ length attempt.now.writes) }
         ensures phase { IfOk result (λ finish. finish.phase ≡ Phase.Sending 2) }
         // The works are the own writes, and the lists name them.
         ensures own { IfOk result (λ finish. IsOf (noted attempt.now.writes) (task_of finish)) }

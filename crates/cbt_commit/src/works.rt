@@ -4,7 +4,7 @@ ghost use Rattle.std.specs.Prelude.{◌≡◌, Some, IsTrue, IfOk, IfSome};
 ghost use Rattle.cbt_model.specs.Fitting.{step_fits};
 ghost use Rattle.cbt_attempt.specs.OwnWrites.{noted};
 ghost use Rattle.cbt_commit.specs.Phases.{unstage};
-ghost use Rattle.cbt_commit.specs.Ready.{written_of, CopiesNotes, HasStamps};
+ghost use Rattle.cbt_commit.specs.Ready.{copied, written_of, CopiesNotes, HasStamps};
 
 use cbt_attempt::Attempt;
 use cbt_base::{DocId, Duplicate, NoMemory};
@@ -63,7 +63,8 @@ impl Work {
 // The own writes of an attempt by document, in their order.
 pub(crate) fn works_of(alloc: Global, attempt: &Attempt) -> Result<IndexMap<DocId, Work>, NoMemory>
     requires { HasStamps (noted attempt.now.writes) }
-    ensures { IfOk result (λ works. CopiesNotes (noted attempt.now.writes) works.entries) }
+    ensures order { IfOk result (λ works. works.entries ≡ copied attempt.now.writes) }
+    ensures just { IfOk result (λ works. CopiesNotes (noted attempt.now.writes) works.entries) }
 {
     let mut works = IndexMap::new(alloc);
     for at in 0..usize::MAX {
