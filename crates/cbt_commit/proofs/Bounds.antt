@@ -1,16 +1,15 @@
 -- A commit has fewer calls left after each answer.
-use Rattle.std.proofs.Common.{◌≡◌, true, ℕ, suc, zero, ◌+◌, ◌-◌, ◌*◌, ◌≤◌, ◌<◌, List, [], ◌∷◌, length, slice_get, Some, None, refl, arith}
-use Rattle.std.proofs.lemmas.Option.{none-some, slice_get_within}
+use Rattle.std.proofs.Common.{◌≡◌, true, ℕ, suc, ◌+◌, ◌-◌, ◌≤◌, ◌<◌, List, length, Some, None, refl, arith}
+use Rattle.std.proofs.lemmas.Option.{slice_get_within}
 use Rattle.cbt_model.specs.Fitting.{fits}
 use Rattle.cbt_model.specs.declared.events.Answer.{Answer}
 use Rattle.cbt_model.specs.declared.events.Made.{Made}
 use Rattle.cbt_model.specs.declared.steps.Step.{Step}
-use Rattle.cbt_commit.specs.Moves.{Moves, commits_it, loses_entry, doubts, finds_committed, sends_again, gives_up, stays_unknown, publishes, drops, fails}
 use Rattle.cbt_commit.specs.Phases.{Task, step_for, left_in, after}
 use Rattle.cbt_commit.specs.Standing.{Runs, begun, goes_on}
 use Rattle.cbt_commit.specs.declared.phases.Phase.{Phase}
 use Rattle.cbt_commit.specs.declared.phases.Phase.TheVariants.{Sending, Reading, Going, Ended}
-use Rattle.cbt_commit.proofs.Moving.{moves}
+use Rattle.cbt_commit.proofs.Moving.{Moves, commits_it, loses_entry, doubts, finds_committed, sends_again, gives_up, stays_unknown, publishes, drops, fails, moves}
 
 -- what is left at a place, within the works
 next_place : (n at : ℕ) → at < n → (n - (at + 1)) + 1 < (n - at) + 1

@@ -1,5 +1,5 @@
 -- What the calls of a commit are, as far as it has come.
-use Rattle.std.proofs.Common.{◌≡◌, ◌≢◌, ℕ, zero, suc, ◌+◌, ◌<◌, ◌⊎◌, Bool, true, false, is_some, inl, inr, ⊎_elim, List, [], ◌∷◌, slice_get, Option, Some, None, refl, ap, sym, ◌∙◌, subst, arith}
+use Rattle.std.proofs.Common.{◌≡◌, ◌≢◌, ℕ, suc, ◌+◌, ◌<◌, Bool, true, false, is_some, inl, inr, ⊎_elim, List, ◌∷◌, slice_get, Option, Some, None, refl, ap, sym, ◌∙◌, subst, arith}
 use Rattle.std.proofs.lemmas.Option.{none-some}
 use Rattle.cbt_json.specs.declared.value.Json.{Json}
 use Rattle.cbt_model.specs.History.{is_done, commits}
@@ -15,7 +15,6 @@ use Rattle.cbt_book.specs.OwnLists.{Once, Kept, Each}
 use Rattle.cbt_book.specs.Passes.{IsDropped}
 use Rattle.cbt_book.specs.Shown.{ReadsEntry, aborts, decides}
 use Rattle.cbt_commit.specs.Ends.{LosesEntry, StaysUnknown, IsLastInDoubt, OnlySettles}
-use Rattle.cbt_commit.specs.Moves.{IsPublished, by_it, before_it, Moves, commits_it, loses_entry, doubts, finds_committed, sends_again, gives_up, stays_unknown, publishes, drops, fails}
 use Rattle.cbt_commit.specs.Phases.{Task, unstage_with, unstage, going_step, step_for, end_in, after}
 use Rattle.cbt_commit.specs.Standing.{Runs, begun, goes_on}
 use Rattle.cbt_commit.specs.Written.{Written}
@@ -23,7 +22,7 @@ use Rattle.cbt_commit.specs.declared.phases.FinishEnd.{FinishEnd}
 use Rattle.cbt_commit.specs.declared.phases.FinishEnd.TheVariants.{Committed, EntryLost, NotCommitted, Unknown}
 use Rattle.cbt_commit.specs.declared.phases.Phase.{Phase}
 use Rattle.cbt_commit.specs.declared.phases.Phase.TheVariants.{Sending, Reading, Going, Ended}
-use Rattle.cbt_commit.proofs.Moving.{some_same, moves}
+use Rattle.cbt_commit.proofs.Moving.{IsPublished, by_it, before_it, Moves, commits_it, loses_entry, doubts, finds_committed, sends_again, gives_up, stays_unknown, publishes, drops, fails, some_same, moves}
 use Rattle.cbt_commit.proofs.OwnCalls.{none_of, each_weaker, kept_weaker, sends, sends_more, sends_same}
 
 true-false : {b : Bool} → b ≡ true → b ≡ false → ⊥
@@ -57,8 +56,8 @@ content_drops : (d : List ℕ) (x : ℕ) (content : Option Json) → drops_entry
 content_drops d x None = refl
 content_drops d x (Some body) = refl
 
-pub unstaging : (t : Task) (w : List ℕ × Written) (m : Made) → m.step ≡ unstage w.0 w.1 → IsUnstaging m.step
-unstaging t w m is = subst IsUnstaging (sym is) (content_unstages w.0 w.1.cas w.1.content)
+pub unstaging : (w : List ℕ × Written) (m : Made) → m.step ≡ unstage w.0 w.1 → IsUnstaging m.step
+unstaging w m is = subst IsUnstaging (sym is) (content_unstages w.0 w.1.cas w.1.content)
 
 pub asked_unstaging : (t : Task) (commit at : ℕ) (m : Made) → step_for t (Going commit at) ≡ Some m.step → IsUnstaging m.step
 asked_unstaging t commit at m asked = subst IsUnstaging (some_same asked) (going_unstages t (slice_get t.works at))
@@ -166,6 +165,12 @@ holds_more : (a place : ℕ) (m : Made) (mine : List Made) → commits m.step �
 holds_more a place m mine unsent (told kept) = told (inr (λ it. none-some a (sym unsent ∙ it), kept))
 holds_more a place m mine unsent (read kept) = read (inr (λ it. none-some a (sym unsent ∙ it), kept))
 
+pub undoubted : (t : Task) (mine : List Made) (commit : ℕ) → Kept (λ m _. (m.answer.place ≡ commit) × CommitsInDoubt t.atr t.attempt m) (λ m _. Settles t.attempt m) mine
+    → Kept (λ m _. CommitsInDoubt t.atr t.attempt m) (λ m _. Settles t.attempt m) mine
+undoubted t mine commit kept =
+    kept_weaker (λ m _. (m.answer.place ≡ commit) × CommitsInDoubt t.atr t.attempt m) (λ m _. CommitsInDoubt t.atr t.attempt m) (λ m _. Settles t.attempt m)
+    (λ m _. Settles t.attempt m) mine (λ m past it. it.1) (λ m past it. it) kept
+
 module _ (t : Task) (m : Made) (mine : List Made) where
   -- the attempt is committed, and nothing is published yet
   begins_to_publish : (commit n : ℕ) → CommitHolds t.attempt commit (m ∷ mine)
@@ -179,12 +184,13 @@ module _ (t : Task) (m : Made) (mine : List Made) where
         (λ later. none_of (λ k. Tries t k) (λ k. resolves k.step ≡ Some d) mine (tries_resolve t d) tried.tries later) once);
     undropped = λ once. ⊎_elim (λ here. none-some t.attempt (sym no_dropping ∙ here))
         (λ later. none_of (λ k. Tries t k) (λ k. drops_entry k.step ≡ Some t.attempt) mine (tries_drop t) tried.tries later) once;
-    fine = (λ it failed. true-false it no_finishing,
-        each_weaker (λ k. Tries t k) (λ k. finishes k.step ≡ true → k.answer.reply ≢ reply.Failed) mine (tries_finish t) tried.tries);
+    fine = (
+      λ it failed. true-false it no_finishing,
+      each_weaker (λ k. Tries t k) (λ k. finishes k.step ≡ true → k.answer.reply ≢ reply.Failed) mine (tries_finish t) tried.tries,
+    );
     third = third;
   }
 
-  -- a commit is in doubt once more
   one_more_try : (n left : ℕ) → n + left ≡ 2 → suc n + left ≡ 3
   one_more_try n left sum = omega arith
 
@@ -194,6 +200,7 @@ module _ (t : Task) (m : Made) (mine : List Made) where
   all_sent : (n : ℕ) → n + 0 ≡ 3 → n ≡ 3
   all_sent n sum = omega arith
 
+  -- a commit is in doubt once more
   doubts_again : (left : ℕ) → m.step ≡ step.Commit t.atr t.attempt t.lists → IsInDoubt m.answer.reply → Waits t left mine → Doubts t left m.answer.place (m ∷ mine)
   doubts_again left is doubt waits = record {
     sent = suc waits.sent;
@@ -207,6 +214,7 @@ module _ (t : Task) (m : Made) (mine : List Made) where
     doubt = inl (refl, ((t.lists, is), doubt));
   }
 
+  -- it took no effect, and is sent again
   waits_again : (left commit : ℕ) (e : Entry) → ReadsEntry t.atr t.attempt e m → e.state ≢ state.Committed → Doubts t (suc left) commit mine → Waits t left (m ∷ mine)
   waits_again left commit e reads apart was = record {
     sent = was.sent;
@@ -218,25 +226,23 @@ module _ (t : Task) (m : Made) (mine : List Made) where
     };
   }
 
-  undoubted : (commit : ℕ) → Kept (λ k _. (k.answer.place ≡ commit) × CommitsInDoubt t.atr t.attempt k) (λ k _. Settles t.attempt k) mine
-      → Kept (λ k _. CommitsInDoubt t.atr t.attempt k) (λ k _. Settles t.attempt k) mine
-  undoubted commit kept =
-      kept_weaker (λ k _. (k.answer.place ≡ commit) × CommitsInDoubt t.atr t.attempt k) (λ k _. CommitsInDoubt t.atr t.attempt k) (λ k _. Settles t.attempt k)
-      (λ k _. Settles t.attempt k) mine (λ k past it. it.1) (λ k past it. it) kept
-
+  -- it took no effect for the third time
   fails_thrice : (commit : ℕ) (e : Entry) → ReadsEntry t.atr t.attempt e m → e.state ≢ state.Committed → Doubts t 0 commit mine → IsInVain t commit (m ∷ mine)
   fails_thrice commit e reads apart was = record {
-    third = inl (t.atr, (e, reads, apart), was.tried.count ∙ all_sent was.sent was.sum, undoubted commit was.doubt);
+    third = inl (t.atr, (e, reads, apart), was.tried.count ∙ all_sent was.sent was.sum, undoubted t mine commit was.doubt);
     only = (inr (t.atr, reads.0), each_weaker (λ k. Tries t k) (λ k. Settles t.attempt k) mine (tries_settle t) was.tried.tries);
-    last = inr (λ it. none-some t.attempt (sym (ap commits reads.0) ∙ it),
-        kept_weaker (λ k _. (k.answer.place ≡ commit) × CommitsInDoubt t.atr t.attempt k) (λ k _. (k.answer.place ≡ commit) × ((r : ℕ) × CommitsInDoubt r t.attempt k))
-        (λ k _. Settles t.attempt k) (λ k _. commits k.step ≡ Some t.attempt) mine (λ k past it. (it.0, (t.atr, it.1))) (λ k past it. inl it) was.doubt);
+    last = inr (
+      λ it. none-some t.attempt (sym (ap commits reads.0) ∙ it),
+      kept_weaker (λ k _. (k.answer.place ≡ commit) × CommitsInDoubt t.atr t.attempt k) (λ k _. (k.answer.place ≡ commit) × ((r : ℕ) × CommitsInDoubt r t.attempt k))
+          (λ k _. Settles t.attempt k) (λ k _. commits k.step ≡ Some t.attempt) mine (λ k past it. (it.0, (t.atr, it.1))) (λ k past it. inl it) was.doubt,
+    );
   }
 
+  -- one more document is published
   publishes_more : (commit at : ℕ) (w : List ℕ × Written) → slice_get t.works at ≡ Some w → m.step ≡ unstage w.0 w.1 → IsPublished m.answer.reply → Publishes t commit at mine
       → Publishes t commit (at + 1) (m ∷ mine)
   publishes_more commit at w here is off was =
-      let it = unstaging t w m is in
+      let it = unstaging w m is in
       record {
         holds = holds_more t.attempt commit m mine it.no_commit was.holds;
         lists = inr (λ commit_it. none-some t.attempt (sym it.no_commit ∙ commit_it), was.lists);
@@ -276,9 +282,11 @@ module _ (t : Task) (m : Made) (mine : List Made) where
       clash_none e shows none = cc
   knows_on _ _ (publishes commit at w here is off) was = publishes_more commit at w here is off was
   knows_on _ _ (drops commit at past is dropped) was =
-      let it = dropping t m is in
-      (holds_more t.attempt commit m mine it.no_commit was.holds, (inl ((t.atr, is), dropped), (λ _. dropped_fine m.answer.reply dropped, was.fine)),
-      third_unread t.attempt m mine it.no_reading was.third)
+      let it = dropping t m is in (
+        holds_more t.attempt commit m mine it.no_commit was.holds,
+        (inl ((t.atr, is), dropped), (λ _. dropped_fine m.answer.reply dropped, was.fine)),
+        third_unread t.attempt m mine it.no_reading was.third,
+      )
   knows_on _ _ (fails commit at asked failed) was =
       let it = asked_unstaging t commit at m asked in
       (holds_more t.attempt commit m mine it.no_commit was.holds, inl (it.finishing, failed), third_unread t.attempt m mine it.no_reading was.third)

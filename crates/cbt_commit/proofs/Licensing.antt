@@ -1,14 +1,11 @@
 -- Each call of a commit is licensed by its client's whole own list, where the attempt's notes were right before it.
-use Rattle.std.proofs.Common.{◌≡◌, ◌≢◌, ℕ, zero, suc, ◌+◌, ◌<◌, ◌≤◌, ◌==◌, ◌⊎◌, Bool, true, false, inl, inr, ⊎_elim, List, [], ◌∷◌, ◌++◌, length, slice_get, Option, Some, None, refl, ap, sym, ◌∙◌, subst, arith}
+use Rattle.std.proofs.Common.{◌≡◌, ◌≢◌, ℕ, ◌+◌, ◌<◌, ◌≤◌, ◌==◌, ◌⊎◌, Bool, true, false, inl, inr, ⊎_elim, List, ◌∷◌, ◌++◌, length, slice_get, Option, Some, None, refl, ap, sym, ◌∙◌, subst, arith}
 use Rattle.std.proofs.lemmas.Option.{none-some, slice_get_within, slice_get_cases}
 use Rattle.cbt_json.specs.declared.value.Json.{Json}
 use Rattle.cbt_model.specs.History.{is_done, commits}
 use Rattle.cbt_model.specs.declared.documents.Stage.{Stage}
-use Rattle.cbt_model.specs.declared.entries.Entry.{Entry}
-use Rattle.cbt_model.specs.declared.entries.EntryState.TheVariants as state
 use Rattle.cbt_model.specs.declared.entries.Lists.{Lists}
 use Rattle.cbt_model.specs.declared.events.Made.{Made}
-use Rattle.cbt_model.specs.declared.steps.Reply.{Reply}
 use Rattle.cbt_model.specs.declared.steps.Reply.TheVariants as reply
 use Rattle.cbt_model.specs.declared.steps.Step.{Step}
 use Rattle.cbt_model.specs.declared.steps.Step.TheVariants as step
@@ -16,19 +13,18 @@ use Rattle.cbt_attempt.specs.Notes.{stage_of, NotesAll, IsQuiet}
 use Rattle.cbt_attempt.specs.declared.own.Own.{Own}
 use Rattle.cbt_attempt.proofs.Notes.{all_quiet, commit_licensed}
 use Rattle.cbt_book.specs.Closing.{IsInDoubt}
-use Rattle.cbt_book.specs.Licence.{IsListed, WasStaged, Unstages, publishes as publication, deletes as deletion, MayHaveStaged, WritesFor, stages, CommitsUnsettled, MayResolve, IsDue, of_own, Clears, unstaged, moved_from_own, MayDrop, MayTake}
+use Rattle.cbt_book.specs.Licence.{IsListed, Unstages, publishes as publication, deletes as deletion, MayHaveStaged, WritesFor, stages, CommitsUnsettled, MayResolve, of_own, Clears, unstaged, moved_from_own, MayDrop, MayTake}
 use Rattle.cbt_book.specs.Numbers.{Identity}
 use Rattle.cbt_book.specs.OwnLists.{Once, Kept, In}
-use Rattle.cbt_book.specs.Shown.{StagesAt, ShowsStaged, by_stage, ReadsEntry, alone, ShowsCommitted, committed_entry, own_commit, AddsEntry, aborts, decides}
-use Rattle.cbt_commit.specs.Moves.{IsPublished, by_it, before_it, Moves, commits_it, loses_entry, doubts, finds_committed, sends_again, gives_up, stays_unknown, publishes, drops, fails}
+use Rattle.cbt_book.specs.Shown.{StagesAt, ShowsStaged, by_stage, alone, ShowsCommitted, committed_entry, own_commit, AddsEntry, aborts, decides}
 use Rattle.cbt_commit.specs.Phases.{Task, unstage_with, unstage, going_step, step_for, after}
 use Rattle.cbt_commit.specs.Ready.{IsReady}
 use Rattle.cbt_commit.specs.Standing.{Runs, begun, goes_on}
 use Rattle.cbt_commit.specs.Written.{Written}
 use Rattle.cbt_commit.specs.declared.phases.Phase.{Phase}
 use Rattle.cbt_commit.specs.declared.phases.Phase.TheVariants.{Sending, Reading, Going, Ended}
-use Rattle.cbt_commit.proofs.Knowing.{IsUnstaging, unstaging, asked_unstaging, dropping}
-use Rattle.cbt_commit.proofs.Moving.{some_same, moves}
+use Rattle.cbt_commit.proofs.Knowing.{unstaging}
+use Rattle.cbt_commit.proofs.Moving.{IsPublished, by_it, before_it, Moves, commits_it, loses_entry, doubts, finds_committed, sends_again, gives_up, stays_unknown, publishes, drops, fails, some_same, moves}
 use Rattle.cbt_commit.proofs.OwnCalls.{once_weaker, in_once, kept_weaker, kept_once}
 
 -- what a call leaves alone: the own writes, and whether the attempt is aborted
@@ -94,27 +90,24 @@ module _ (t : Task) where
   Holds (Going commit at) l = Clearing at l
   Holds (Ended end) l = Unit {0}
 
-  -- the own write of a document that is to be published is its attempt's last one
-  last_write : (l : List Made) (own : List ℕ → Option Own) (d : List ℕ) (v : Own) (x : ℕ) → IsNoted own l → own d ≡ Some v → v.cas ≡ Some x
-      → Kept (λ m _. StagesAt d x (stage_of t.attempt t.atr v) m) (WritesFor t.attempt d) l
-  last_write l own d v x it at cas = it.notes.last d v x at cas
-
   content_takes_off : (d : List ℕ) (x : ℕ) (content : Option Json) → Unstages d x (unstage_with d x content)
   content_takes_off d x None = deletion refl
   content_takes_off d x (Some body) = publication body refl
 
+  -- a publication takes off what was staged, or finds that somebody else did
   clears : (own : List ℕ → Option Own) (m showing : Made) (l : List Made) (w : List ℕ × Written) (v : Own) → IsNoted own l → own w.0 ≡ Some v → v.cas ≡ Some w.1.cas
       → m.step ≡ unstage w.0 w.1 → IsPublished m.answer.reply → Clears t.attempt showing w.0 m l
   clears own m showing l w v it at cas is (by_it c done) =
       unstaged w.1.cas (subst (Unstages w.0 w.1.cas) (sym is) (content_takes_off w.0 w.1.cas w.1.content)) (ap is_done done)
       (kept_once (λ k _. StagesAt w.0 w.1.cas (stage_of t.attempt t.atr v) k) (λ k _. (stage : Stage) × (stage.attempt ≡ t.attempt) × ShowsStaged w.0 w.1.cas stage k)
-      (WritesFor t.attempt w.0) l (λ k past staged. (stage_of t.attempt t.atr v, refl, by_stage staged)) (last_write l own w.0 v w.1.cas it at cas))
+      (WritesFor t.attempt w.0) l (λ k past staged. (stage_of t.attempt t.atr v, refl, by_stage staged)) (it.notes.last w.0 v w.1.cas at cas))
   clears own m showing l w v it at cas is (before_it have moved) =
       moved_from_own w.1.cas have (subst (Unstages w.0 w.1.cas) (sym is) (content_takes_off w.0 w.1.cas w.1.content)) moved
       (kept_weaker (λ k _. StagesAt w.0 w.1.cas (stage_of t.attempt t.atr v) k) (λ k _. (stage : Stage) × (stage.attempt ≡ t.attempt) × StagesAt w.0 w.1.cas stage k)
       (WritesFor t.attempt w.0) (λ k _. MayHaveStaged t.attempt w.0 k) l (λ k past staged. (stage_of t.attempt t.atr v, refl, staged))
-      (λ k past may. stages may.0.0 may.0.1) (last_write l own w.0 v w.1.cas it at cas))
+      (λ k past may. stages may.0.0 may.0.1) (it.notes.last w.0 v w.1.cas at cas))
 
+  -- a commit in doubt and a reading answer no commit
   in_doubt : (m : Made) → IsInDoubt m.answer.reply → Answered m → ⊥
   in_doubt m doubt answered = ⊎_elim answered.1 answered.2 doubt
 
@@ -143,7 +136,7 @@ module _ (t : Task) where
     shown = was.shown;
     earlier = inr was.earlier;
     shows = was.shows;
-    last = inr (undecided m (unstaging t w m is).no_decision, was.last);
+    last = inr (undecided m (unstaging w m is).no_decision, was.last);
     cleared = λ j u before there. by j u there (j == at) refl before;
   }
     where
@@ -191,7 +184,7 @@ module _ (t : Task) where
         record {
           stage = stage_of t.attempt t.atr own.0;
           staged = kept_once (λ k _. StagesAt w.0 w.1.cas (stage_of t.attempt t.atr own.0) k) (λ k _. ShowsStaged w.0 w.1.cas (stage_of t.attempt t.atr own.0) k)
-              (WritesFor t.attempt w.0) l (λ k past staged. by_stage staged) (last_write l ready.own w.0 own.0 w.1.cas it own.1 own.2);
+              (WritesFor t.attempt w.0) l (λ k past staged. by_stage staged) (it.notes.last w.0 own.0 w.1.cas own.1 own.2);
           content_is = own.3 ∙ is;
           committed = in_once (λ k. (lists : Lists) × ShowsCommitted t.atr t.attempt lists k) was.showing l was.earlier (was.shown, was.shows);
         }

@@ -1,5 +1,5 @@
 -- Words on own lists, carried over from one word to another.
-use Rattle.std.proofs.Common.{◌≡◌, ℕ, suc, ◌+◌, Bool, true, false, cond, is_some, inl, inr, ⊎_elim, List, ◌∷◌, [], count_by, None, Some, ap, subst, sym, ◌∙◌, arith}
+use Rattle.std.proofs.Common.{◌≡◌, ℕ, suc, ◌+◌, true, false, cond, is_some, inl, inr, ⊎_elim, List, ◌∷◌, [], count_by, ap, subst, ◌∙◌, arith}
 use Rattle.std.proofs.lemmas.List.Sums.{sum_by-cons}
 use Rattle.cbt_model.specs.History.{commits}
 use Rattle.cbt_model.specs.declared.events.Made.{Made}

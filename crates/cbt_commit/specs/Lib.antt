@@ -1,6 +1,5 @@
 pub mod Written
 pub mod Phases
 pub mod Ends
-pub mod Moves
 pub mod Ready
 pub mod Standing

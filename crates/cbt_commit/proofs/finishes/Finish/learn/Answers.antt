@@ -1,7 +1,7 @@
 use Rattle.std.proofs.Common.{◌≡◌, ◌<◌, ◌∷◌, Option, true, false, Some, None, IsSome, refl, sym, subst}
 use Rattle.cbt_model.specs.declared.steps.Step.{Step}
 use Rattle.cbt_commit.specs.Phases.{task_of, step_of, left_in}
-use Rattle.cbt_commit.specs.Standing.{Runs, StandsFor, goes_on}
+use Rattle.cbt_commit.specs.Standing.{Runs, goes_on}
 use Rattle.cbt_commit.specs.declared.finishes.Finish.{Finish}
 use Rattle.cbt_commit.proofs.Bounds.{fewer_after}
 use Rattle.cbt_commit.proofs.finishes.Finish.learn.Goals as goal
