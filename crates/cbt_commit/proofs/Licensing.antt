@@ -4,6 +4,8 @@ use Rattle.std.proofs.lemmas.Option.{none-some, slice_get_within, slice_get_case
 use Rattle.cbt_json.specs.declared.value.Json.{Json}
 use Rattle.cbt_model.specs.History.{is_done, commits}
 use Rattle.cbt_model.specs.declared.documents.Stage.{Stage}
+use Rattle.cbt_model.specs.declared.entries.Entry.{Entry}
+use Rattle.cbt_model.specs.declared.entries.EntryState.TheVariants as state
 use Rattle.cbt_model.specs.declared.entries.Lists.{Lists}
 use Rattle.cbt_model.specs.declared.events.Made.{Made}
 use Rattle.cbt_model.specs.declared.steps.Reply.TheVariants as reply
@@ -15,12 +17,14 @@ use Rattle.cbt_attempt.proofs.Notes.{all_quiet, commit_licensed}
 use Rattle.cbt_book.specs.Closing.{IsInDoubt}
 use Rattle.cbt_book.specs.Licence.{IsListed, Unstages, publishes as publication, deletes as deletion, MayHaveStaged, WritesFor, stages, CommitsUnsettled, MayResolve, of_own, Clears, unstaged, moved_from_own, MayDrop, MayTake}
 use Rattle.cbt_book.specs.Numbers.{Identity}
-use Rattle.cbt_book.specs.OwnLists.{Once, Kept, In}
-use Rattle.cbt_book.specs.Shown.{StagesAt, ShowsStaged, by_stage, alone, ShowsCommitted, committed_entry, own_commit, AddsEntry, aborts, decides}
-use Rattle.cbt_commit.specs.Phases.{Task, unstage_with, unstage, going_step, step_for, after}
+use Rattle.cbt_book.specs.OwnLists.{Once, Kept, Each, In}
+use Rattle.cbt_book.specs.Shown.{ReadsEntry, StagesAt, ShowsStaged, by_stage, alone, ShowsCommitted, committed_entry, own_commit, AddsEntry, aborts, decides}
+use Rattle.cbt_commit.specs.Phases.{Task, unstage_with, unstage, going_step, step_for, end_in, after}
 use Rattle.cbt_commit.specs.Ready.{IsReady}
 use Rattle.cbt_commit.specs.Standing.{Runs, begun, goes_on}
 use Rattle.cbt_commit.specs.Written.{Written}
+use Rattle.cbt_commit.specs.declared.phases.FinishEnd.{FinishEnd}
+use Rattle.cbt_commit.specs.declared.phases.FinishEnd.TheVariants.{Committed, EntryLost, NotCommitted, Unknown}
 use Rattle.cbt_commit.specs.declared.phases.Phase.{Phase}
 use Rattle.cbt_commit.specs.declared.phases.Phase.TheVariants.{Sending, Reading, Going, Ended}
 use Rattle.cbt_commit.proofs.Knowing.{unstaging}
@@ -83,12 +87,19 @@ module _ (t : Task) where
     cleared : (j : ℕ) (w : List ℕ × Written) → j < at → slice_get t.works j ≡ Some w
         → Once (λ m before. In showing before × Clears t.attempt showing w.0 m before) l
 
+  -- an attempt that was not committed may be aborted
+  abbrev HoldsAtEnd : FinishEnd → List Made → Type 0
+  HoldsAtEnd (NotCommitted place) l = CommitsUnsettled l t.atr t.attempt
+  HoldsAtEnd (Committed place complete) l = Unit {0}
+  HoldsAtEnd (EntryLost place) l = Unit {0}
+  HoldsAtEnd (Unknown commit reading) l = Unit {0}
+
   -- what a phase needs of the whole list
   abbrev Holds : Phase → List Made → Type 0
   Holds (Sending left) l = CommitsUnsettled l t.atr t.attempt
   Holds (Reading left commit) l = InDoubt l
   Holds (Going commit at) l = Clearing at l
-  Holds (Ended end) l = Unit {0}
+  Holds (Ended end) l = HoldsAtEnd end l
 
   content_takes_off : (d : List ℕ) (x : ℕ) (content : Option Json) → Unstages d x (unstage_with d x content)
   content_takes_off d x None = deletion refl
@@ -148,6 +159,13 @@ module _ (t : Task) where
           inl (was.earlier, subst (λ (x : List ℕ × Written). Clears t.attempt was.showing x.0 m l) work (clears own m was.showing l w v it known cas is off))
       by j u there false other before = inr (was.cleared j u (grind arith) there)
 
+  -- the reading behind a commit in doubt shows it in vain
+  settles : (m : Made) (l : List Made) (e : Entry) → ReadsEntry t.atr t.attempt e m → e.state ≢ state.Committed → InDoubt l → CommitsUnsettled (m ∷ l) t.atr t.attempt
+  settles m l e reads apart was = record {
+    unanswered = λ once. ⊎_elim (λ here. unread m reads.0 here) (λ later. was.unanswered later) once;
+    read = λ _. inl (e, reads, apart);
+  }
+
   holds_on : (l0 : List Made) (ready : IsReady t l0) (m : Made) (l : List Made) (p q : Phase) → Moves t m p q → IsNoted ready.own l → Holds p l → Holds q (m ∷ l)
   holds_on l0 ready m l _ _ (commits_it left c is done) it was = shown_now m l t.lists (own_commit c is done) (inl is)
   holds_on l0 ready m l _ _ (loses_entry left is none) it was = record {}
@@ -157,11 +175,8 @@ module _ (t : Task) where
   }
   holds_on l0 ready m l _ _ (finds_committed left commit e reads is) it was =
       shown_now m l e.lists (committed_entry e (alone reads) is refl) (inr (undecided m (ap decides reads.0), was.last))
-  holds_on l0 ready m l _ _ (sends_again left commit e reads apart) it was = record {
-    unanswered = λ once. ⊎_elim (λ here. unread m reads.0 here) (λ later. was.unanswered later) once;
-    read = λ _. inl (e, reads, apart);
-  }
-  holds_on l0 ready m l _ _ (gives_up commit e reads apart) it was = record {}
+  holds_on l0 ready m l _ _ (sends_again left commit e reads apart) it was = settles m l e reads apart was
+  holds_on l0 ready m l _ _ (gives_up commit e reads apart) it was = settles m l e reads apart was
   holds_on l0 ready m l _ _ (stays_unknown left commit is unshown) it was = record {}
   holds_on l0 ready m l _ _ (publishes commit at w here is off) it was =
       let own = ready.is_of.works.known at w here in
@@ -235,3 +250,23 @@ module _ (t : Task) where
   pub licensed : (who : Identity) (l0 mine : List Made) (p : Phase) (s : Step) → IsReady t l0 → Runs t p mine → step_for t p ≡ Some s → MayTake who (mine ++ l0) s
   licensed who l0 mine p s ready run asked =
       may_take l0 ready who (mine ++ l0) (noted l0 ready p mine run) p s (holds l0 ready p mine run) asked
+
+  -- an attempt whose commits were in vain may still be aborted
+  pub unsettled : (l0 mine : List Made) (p : Phase) (place : ℕ) → IsReady t l0 → Runs t p mine → end_in p ≡ Some (NotCommitted place)
+      → CommitsUnsettled (mine ++ l0) t.atr t.attempt
+  unsettled l0 mine p place ready run ended = by p (holds l0 ready p mine run) ended
+    where
+      by : (q : Phase) → Holds q (mine ++ l0) → end_in q ≡ Some (NotCommitted place) → CommitsUnsettled (mine ++ l0) t.atr t.attempt
+      by (Sending left) was it = absurd (none-some (NotCommitted place) it)
+      by (Reading left commit) was it = absurd (none-some (NotCommitted place) it)
+      by (Going commit at) was it = absurd (none-some (NotCommitted place) it)
+      by (Ended end) was it = subst (λ e. HoldsAtEnd e (mine ++ l0)) (some_same it) was
+
+  -- the calls leave the own writes alone, and abort nothing
+  pub all_quiet_calls : (p : Phase) (mine : List Made) → Runs t p mine → Each (λ m _. IsQuiet t.attempt m.step) mine
+  all_quiet_calls _ _ begun = record {}
+  all_quiet_calls _ _ (goes_on p mine m run asked fit) = ((asked_harmless p m.step asked).quiet, all_quiet_calls p mine run)
+
+  pub none_aborts : (p : Phase) (mine : List Made) → Runs t p mine → Each (λ m _. aborts m.step ≡ None) mine
+  none_aborts _ _ begun = record {}
+  none_aborts _ _ (goes_on p mine m run asked fit) = ((asked_harmless p m.step asked).no_abort, none_aborts p mine run)

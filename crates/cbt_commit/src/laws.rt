@@ -4,10 +4,12 @@
 ghost use Rattle.std.specs.Prelude.{◌≡◌, ◌≢◌, ℕ, ◌+◌, ◌≤◌, Bool, List, ◌++◌, length, Some, None};
 ghost use Rattle.cbt_model.specs.declared.events.Made.{Made};
 ghost use Rattle.cbt_model.specs.declared.steps.Step.{Step};
+ghost use Rattle.cbt_attempt.specs.Notes.{IsQuiet};
 ghost use Rattle.cbt_book.specs.Closing.{CommitHolds, IsFinished, MayClose, ThirdInVain};
-ghost use Rattle.cbt_book.specs.Licence.{MayTake};
+ghost use Rattle.cbt_book.specs.Licence.{CommitsUnsettled, MayTake};
 ghost use Rattle.cbt_book.specs.Numbers.{Identity};
 ghost use Rattle.cbt_book.specs.OwnLists.{Each};
+ghost use Rattle.cbt_book.specs.Shown.{aborts};
 ghost use Rattle.cbt_commit.specs.Ends.{IsLastInDoubt, LosesEntry, OnlySettles, StaysUnknown};
 ghost use Rattle.cbt_commit.specs.Phases.{calls_left, end_of, step_of, task_of};
 ghost use Rattle.cbt_commit.specs.Ready.{IsReady};
@@ -46,6 +48,16 @@ pub fn commits_close()
 pub fn commits_are_licensed()
     ensures { (who : Identity) (finish : Finish) (l0 mine : List Made) (s : Step) → IsReady (task_of finish) l0
         → StandsFor finish mine → step_of finish ≡ Some s → MayTake who (mine ++ l0) s }
+{}
+
+/// The calls of a commit leave the own writes of its attempt as they are noted, and abort nothing. An
+/// attempt whose third commit was in vain may still be aborted.
+pub fn commits_leave_writes()
+    ensures quiet { (finish : Finish) (mine : List Made) → StandsFor finish mine
+        → Each (λ m _. IsQuiet finish.attempt m.step) mine }
+    ensures unaborted { (finish : Finish) (mine : List Made) → StandsFor finish mine → Each (λ m _. aborts m.step ≡ None) mine }
+    ensures unsettled { (finish : Finish) (l0 mine : List Made) (place : ℕ) → IsReady (task_of finish) l0 → StandsFor finish mine
+        → end_of finish ≡ Some (FinishEnd.NotCommitted place) → CommitsUnsettled (mine ++ l0) finish.atr finish.attempt }
 {}
 
 /// After each call a commit of n own writes has so many calls left that it makes at most n + 7. None is

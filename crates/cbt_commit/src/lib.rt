@@ -9,6 +9,9 @@ mod phases;
 mod works;
 
 pub use finishes::Finish;
-pub use laws::{commits_are_licensed, commits_close, commits_end_right, commits_stay_bounded};
+pub use laws::{
+    commits_are_licensed, commits_close, commits_end_right, commits_leave_writes,
+    commits_stay_bounded,
+};
 pub use phases::{FinishEnd, Phase};
 pub use works::Work;
