@@ -87,7 +87,7 @@ module _ (t : Task) where
     cleared : (j : ℕ) (w : List ℕ × Written) → j < at → slice_get t.works j ≡ Some w
         → Once (λ m before. In showing before × Clears t.attempt showing w.0 m before) l
 
-  -- an attempt that was not committed may be aborted
+  -- after a third commit in vain the commits are unsettled
   abbrev HoldsAtEnd : FinishEnd → List Made → Type 0
   HoldsAtEnd (NotCommitted place) l = CommitsUnsettled l t.atr t.attempt
   HoldsAtEnd (Committed place complete) l = Unit {0}
@@ -251,7 +251,7 @@ module _ (t : Task) where
   licensed who l0 mine p s ready run asked =
       may_take l0 ready who (mine ++ l0) (noted l0 ready p mine run) p s (holds l0 ready p mine run) asked
 
-  -- an attempt whose commits were in vain may still be aborted
+  -- the commits in vain are unsettled
   pub unsettled : (l0 mine : List Made) (p : Phase) (place : ℕ) → IsReady t l0 → Runs t p mine → end_in p ≡ Some (NotCommitted place)
       → CommitsUnsettled (mine ++ l0) t.atr t.attempt
   unsettled l0 mine p place ready run ended = by p (holds l0 ready p mine run) ended

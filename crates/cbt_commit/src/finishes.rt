@@ -38,7 +38,8 @@ pub struct Finish {
 }
 
 impl Finish {
-    /// The commit of this attempt, which has sent its entry and knows the stamp of each own write.
+    /// The commit of this attempt, which has sent its entry and knows the stamp of each own write. Its own
+    /// writes are copied; it is an error where there is no memory for that.
     pub fn begin(alloc: Global, attempt: &Attempt) -> Result<Finish, NoMemory>
         requires sent { IsSome attempt.now.sent }
         requires known { HasStamps (noted attempt.now.writes) }
@@ -66,7 +67,8 @@ impl Finish {
         })
     }
 
-    /// The call to make now; none where it has ended.
+    /// The call to make now; none where it has ended. It is an error where there is no memory for the call,
+    /// and may then be asked again.
     pub fn next(&self, alloc: Global) -> Result<Option<Step>, NoMemory>
         ensures step { IfOk result (λ step. step ≡ step_of self.now) }
         ensures fits { IfOk result (λ step. IfSome step (λ s. IsTrue (step_fits s))) }

@@ -50,8 +50,8 @@ pub fn commits_are_licensed()
         → StandsFor finish mine → step_of finish ≡ Some s → MayTake who (mine ++ l0) s }
 {}
 
-/// The calls of a commit leave the own writes of its attempt as they are noted, and abort nothing. An
-/// attempt whose third commit was in vain may still be aborted.
+/// The calls of a commit leave the own writes of its attempt as they are noted, and abort nothing. Where
+/// the third commit was in vain the attempt's commits are unsettled, as an abort needs them to be.
 pub fn commits_leave_writes()
     ensures quiet { (finish : Finish) (mine : List Made) → StandsFor finish mine
         → Each (λ m _. IsQuiet finish.attempt m.step) mine }
