@@ -31,7 +31,8 @@ module _ (t : Task) (mine : List Made) where
   may_resolve : (commit at : ℕ) (w : List ℕ × Written) → IsListedOnce t → slice_get t.works at ≡ Some w → Publishes t commit at mine
       → CommitLists t.attempt w.0 mine × (¬ Once (λ m _. resolves m.step ≡ Some w.0) mine)
   may_resolve commit at w listed here was = (
-    kept_weaker (λ m _. m.step ≡ step.Commit t.atr t.attempt t.lists) (λ m _. (r : ℕ) × (lists : Lists) × (m.step ≡ step.Commit r t.attempt lists) × IsListed w.0 lists)
+    kept_weaker (λ m _. m.step ≡ step.Commit t.atr t.attempt t.lists)
+        (λ m _. (r : ℕ) × (lists : Lists) × (m.step ≡ step.Commit r t.attempt lists) × IsListed w.0 lists)
         (λ m _. commits m.step ≡ Some t.attempt) (λ m _. commits m.step ≡ Some t.attempt) mine
         (λ m past is. (t.atr, t.lists, is, listed.listed at w here)) (λ m past it. it) was.lists,
     λ once. let it = was.resolved w.0 once in later it.0 it.2 (listed.apart it.0 at it.1 w it.3 here it.4),
@@ -45,7 +46,8 @@ module _ (t : Task) (mine : List Made) where
   by_content d x None may = may
   by_content d x (Some body) may = may
 
-  going_closes : (commit at : ℕ) (o : Option (List ℕ × Written)) → slice_get t.works at ≡ o → IsListedOnce t → Publishes t commit at mine → MayClose t.attempt mine (going_step t o)
+  going_closes : (commit at : ℕ) (o : Option (List ℕ × Written)) → slice_get t.works at ≡ o → IsListedOnce t → Publishes t commit at mine
+      → MayClose t.attempt mine (going_step t o)
   going_closes commit at None past listed was = (
     refl,
     kept_once (λ m _. m.step ≡ step.Commit t.atr t.attempt t.lists) (λ m _. decides m.step ≡ Some t.attempt) (λ m _. commits m.step ≡ Some t.attempt) mine
@@ -58,7 +60,8 @@ module _ (t : Task) (mine : List Made) where
   closes (Sending left) s listed waits asked = subst (λ u. MayClose t.attempt mine u) (some_same asked) (refl, may_send left waits)
   closes (Reading left commit) s listed was asked =
       subst (λ u. MayClose t.attempt mine u) (some_same asked) (refl, undoubted t mine commit was.doubt)
-  closes (Going commit at) s listed was asked = subst (λ u. MayClose t.attempt mine u) (some_same asked) (going_closes commit at (slice_get t.works at) refl listed was)
+  closes (Going commit at) s listed was asked =
+      subst (λ u. MayClose t.attempt mine u) (some_same asked) (going_closes commit at (slice_get t.works at) refl listed was)
   closes (Ended end) s listed ended asked = absurd (none-some s asked)
 
 pub all_close : (t : Task) (p : Phase) (mine : List Made) → IsListedOnce t → Runs t p mine → Each (λ m past. MayClose t.attempt past m.step) mine

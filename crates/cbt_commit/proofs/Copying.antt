@@ -64,7 +64,8 @@ key_at P (v ∷ works) zero w all found = subst (λ (u : Work). P u.0) (some_sam
 key_at P (v ∷ works) (suc at) w all found = key_at P works at w all.1 found
 
 -- where no key stands twice, a document stands at one place
-one_place : (works : List Work) → IsDistinct bytes_eq (keys_of works) → (i j : ℕ) (v w : Work) → slice_get works i ≡ Some v → slice_get works j ≡ Some w → v.0 ≡ w.0 → i ≡ j
+one_place : (works : List Work) → IsDistinct bytes_eq (keys_of works) → (i j : ℕ) (v w : Work) → slice_get works i ≡ Some v → slice_get works j ≡ Some w
+    → v.0 ≡ w.0 → i ≡ j
 one_place [] unique i j v w at_i at_j same = absurd (none-some v at_i)
 one_place (u ∷ works) unique zero zero v w at_i at_j same = refl
 one_place (u ∷ works) unique zero (suc j) v w at_i at_j same =
@@ -144,7 +145,8 @@ always_written writes at e found known =
     by v None some = some
     by v (Some x) some = refl
 
-pub copied_all : (writes : List (List ℕ × Own)) (at : ℕ) (works : List Work) → slice_get writes at ≡ None → CopiedUpTo writes at works → CopiesNotes (noted writes) works
+pub copied_all : (writes : List (List ℕ × Own)) (at : ℕ) (works : List Work) → slice_get writes at ≡ None → CopiedUpTo writes at works
+    → CopiesNotes (noted writes) works
 copied_all writes at works past upto = record {
   known = λ j w is. upto.kept w.0 w.1 (lookup_from_place bytes_equiv works j w.0 w.1 upto.unique is);
   all = all_of;

@@ -121,7 +121,8 @@ pub record Doubts (t : Task) (left commit : ℕ) (mine : List Made) : Type 0 whe
 pub record Publishes (t : Task) (commit at : ℕ) (mine : List Made) : Type 0 where
   pub holds : CommitHolds t.attempt commit mine
   pub lists : Kept (λ m _. m.step ≡ step.Commit t.atr t.attempt t.lists) (λ m _. commits m.step ≡ Some t.attempt) mine
-  pub resolved : (d : List ℕ) → Once (λ m _. resolves m.step ≡ Some d) mine → (j : ℕ) × (w : List ℕ × Written) × (j < at) × (slice_get t.works j ≡ Some w) × (w.0 ≡ d)
+  pub resolved : (d : List ℕ) → Once (λ m _. resolves m.step ≡ Some d) mine
+      → (j : ℕ) × (w : List ℕ × Written) × (j < at) × (slice_get t.works j ≡ Some w) × (w.0 ≡ d)
   pub undropped : ¬ Once (λ m _. drops_entry m.step ≡ Some t.attempt) mine
   pub fine : Each (λ m _. finishes m.step ≡ true → m.answer.reply ≢ reply.Failed) mine
   pub third : ¬ ThirdInVain t.attempt mine
@@ -149,7 +150,8 @@ Knows t (Ended end) mine = EndsBy t end mine
 third_unread : (a : ℕ) (m : Made) (mine : List Made) → reads_entry m.step ≡ false → ¬ ThirdInVain a mine → ¬ ThirdInVain a (m ∷ mine)
 third_unread a m mine unread none third = ⊎_elim (λ here. true-false (ap reads_entry here.1.1.0) unread) (λ later. none later) third
 
-third_untold : (a : ℕ) (m : Made) (mine : List Made) → ((e : Entry) → m.answer.reply ≡ reply.Entry e → e.state ≡ state.Committed) → ¬ ThirdInVain a mine → ¬ ThirdInVain a (m ∷ mine)
+third_untold : (a : ℕ) (m : Made) (mine : List Made) → ((e : Entry) → m.answer.reply ≡ reply.Entry e → e.state ≡ state.Committed) → ¬ ThirdInVain a mine
+    → ¬ ThirdInVain a (m ∷ mine)
 third_untold a m mine untold none third = ⊎_elim (λ here. here.1.2 (untold here.1.0 here.1.1.1)) (λ later. none later) third
 
 entry_same : (e f : Entry) → reply.Entry e ≡ reply.Entry f → e ≡ f
@@ -165,7 +167,8 @@ holds_more : (a place : ℕ) (m : Made) (mine : List Made) → commits m.step �
 holds_more a place m mine unsent (told kept) = told (inr (λ it. none-some a (sym unsent ∙ it), kept))
 holds_more a place m mine unsent (read kept) = read (inr (λ it. none-some a (sym unsent ∙ it), kept))
 
-pub undoubted : (t : Task) (mine : List Made) (commit : ℕ) → Kept (λ m _. (m.answer.place ≡ commit) × CommitsInDoubt t.atr t.attempt m) (λ m _. Settles t.attempt m) mine
+pub undoubted : (t : Task) (mine : List Made) (commit : ℕ)
+    → Kept (λ m _. (m.answer.place ≡ commit) × CommitsInDoubt t.atr t.attempt m) (λ m _. Settles t.attempt m) mine
     → Kept (λ m _. CommitsInDoubt t.atr t.attempt m) (λ m _. Settles t.attempt m) mine
 undoubted t mine commit kept =
     kept_weaker (λ m _. (m.answer.place ≡ commit) × CommitsInDoubt t.atr t.attempt m) (λ m _. CommitsInDoubt t.atr t.attempt m) (λ m _. Settles t.attempt m)
@@ -215,7 +218,8 @@ module _ (t : Task) (m : Made) (mine : List Made) where
   }
 
   -- it took no effect, and is sent again
-  waits_again : (left commit : ℕ) (e : Entry) → ReadsEntry t.atr t.attempt e m → e.state ≢ state.Committed → Doubts t (suc left) commit mine → Waits t left (m ∷ mine)
+  waits_again : (left commit : ℕ) (e : Entry) → ReadsEntry t.atr t.attempt e m → e.state ≢ state.Committed → Doubts t (suc left) commit mine
+      → Waits t left (m ∷ mine)
   waits_again left commit e reads apart was = record {
     sent = was.sent;
     sum = one_fewer was.sent left was.sum;
@@ -233,13 +237,15 @@ module _ (t : Task) (m : Made) (mine : List Made) where
     only = (inr (t.atr, reads.0), each_weaker (λ k. Tries t k) (λ k. Settles t.attempt k) mine (tries_settle t) was.tried.tries);
     last = inr (
       λ it. none-some t.attempt (sym (ap commits reads.0) ∙ it),
-      kept_weaker (λ k _. (k.answer.place ≡ commit) × CommitsInDoubt t.atr t.attempt k) (λ k _. (k.answer.place ≡ commit) × ((r : ℕ) × CommitsInDoubt r t.attempt k))
+      kept_weaker (λ k _. (k.answer.place ≡ commit) × CommitsInDoubt t.atr t.attempt k)
+          (λ k _. (k.answer.place ≡ commit) × ((r : ℕ) × CommitsInDoubt r t.attempt k))
           (λ k _. Settles t.attempt k) (λ k _. commits k.step ≡ Some t.attempt) mine (λ k past it. (it.0, (t.atr, it.1))) (λ k past it. inl it) was.doubt,
     );
   }
 
   -- one more document is published
-  publishes_more : (commit at : ℕ) (w : List ℕ × Written) → slice_get t.works at ≡ Some w → m.step ≡ unstage w.0 w.1 → IsPublished m.answer.reply → Publishes t commit at mine
+  publishes_more : (commit at : ℕ) (w : List ℕ × Written) → slice_get t.works at ≡ Some w → m.step ≡ unstage w.0 w.1 → IsPublished m.answer.reply
+      → Publishes t commit at mine
       → Publishes t commit (at + 1) (m ∷ mine)
   publishes_more commit at w here is off was =
       let it = unstaging w m is in
@@ -262,7 +268,8 @@ module _ (t : Task) (m : Made) (mine : List Made) where
   -- the call takes what is known from one phase to the next
   pub knows_on : (p q : Phase) → Moves t m p q → Knows t p mine → Knows t q (m ∷ mine)
   knows_on _ _ (commits_it left c is done) waits =
-      begins_to_publish m.answer.place waits.sent (told (inl (refl, (t.atr, c, t.lists, is, done)))) (inl is) (ap resolves is) (ap drops_entry is) (ap finishes is) waits.tried
+      begins_to_publish m.answer.place waits.sent (told (inl (refl, (t.atr, c, t.lists, is, done)))) (inl is)
+      (ap resolves is) (ap drops_entry is) (ap finishes is) waits.tried
       (third_unread t.attempt m mine (ap reads_entry is) waits.tried.third)
   knows_on _ _ (loses_entry left is none) waits = (inl (refl, ap commits is, none), third_unread t.attempt m mine (ap reads_entry is) waits.tried.third)
   knows_on _ _ (doubts left is doubt) waits = doubts_again left is doubt waits
@@ -272,8 +279,10 @@ module _ (t : Task) (m : Made) (mine : List Made) where
       (third_untold t.attempt m mine (λ f shows. ap (λ (u : Entry). u.state) (sym (entry_same e f (sym reads.1 ∙ shows))) ∙ is) was.tried.third)
   knows_on _ _ (sends_again left commit e reads apart) was = waits_again left commit e reads apart was
   knows_on _ _ (gives_up commit e reads apart) was = fails_thrice commit e reads apart was
-  knows_on _ _ (stays_unknown left commit is unshown) was =
-      (inl (t.atr, refl, is, unshown, was.doubt), third_untold t.attempt m mine (λ e shows. absurd (⊎_elim (λ failed. clash e shows failed) (λ none. clash_none e shows none) unshown)) was.tried.third)
+  knows_on _ _ (stays_unknown left commit is unshown) was = (
+    inl (t.atr, refl, is, unshown, was.doubt),
+    third_untold t.attempt m mine (λ e shows. absurd (⊎_elim (λ failed. clash e shows failed) (λ none. clash_none e shows none) unshown)) was.tried.third,
+  )
     where
       clash : (e : Entry) → m.answer.reply ≡ reply.Entry e → m.answer.reply ≡ reply.Failed → ⊥
       clash e shows failed = cc

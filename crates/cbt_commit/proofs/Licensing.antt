@@ -110,11 +110,13 @@ module _ (t : Task) where
       → m.step ≡ unstage w.0 w.1 → IsPublished m.answer.reply → Clears t.attempt showing w.0 m l
   clears own m showing l w v it at cas is (by_it c done) =
       unstaged w.1.cas (subst (Unstages w.0 w.1.cas) (sym is) (content_takes_off w.0 w.1.cas w.1.content)) (ap is_done done)
-      (kept_once (λ k _. StagesAt w.0 w.1.cas (stage_of t.attempt t.atr v) k) (λ k _. (stage : Stage) × (stage.attempt ≡ t.attempt) × ShowsStaged w.0 w.1.cas stage k)
+      (kept_once (λ k _. StagesAt w.0 w.1.cas (stage_of t.attempt t.atr v) k)
+      (λ k _. (stage : Stage) × (stage.attempt ≡ t.attempt) × ShowsStaged w.0 w.1.cas stage k)
       (WritesFor t.attempt w.0) l (λ k past staged. (stage_of t.attempt t.atr v, refl, by_stage staged)) (it.notes.last w.0 v w.1.cas at cas))
   clears own m showing l w v it at cas is (before_it have moved) =
       moved_from_own w.1.cas have (subst (Unstages w.0 w.1.cas) (sym is) (content_takes_off w.0 w.1.cas w.1.content)) moved
-      (kept_weaker (λ k _. StagesAt w.0 w.1.cas (stage_of t.attempt t.atr v) k) (λ k _. (stage : Stage) × (stage.attempt ≡ t.attempt) × StagesAt w.0 w.1.cas stage k)
+      (kept_weaker (λ k _. StagesAt w.0 w.1.cas (stage_of t.attempt t.atr v) k)
+      (λ k _. (stage : Stage) × (stage.attempt ≡ t.attempt) × StagesAt w.0 w.1.cas stage k)
       (WritesFor t.attempt w.0) (λ k _. MayHaveStaged t.attempt w.0 k) l (λ k past staged. (stage_of t.attempt t.atr v, refl, staged))
       (λ k past may. stages may.0.0 may.0.1) (it.notes.last w.0 v w.1.cas at cas))
 
@@ -140,7 +142,8 @@ module _ (t : Task) where
     cleared = λ j w before here. absurd (omega arith);
   }
 
-  cleared_more : (own : List ℕ → Option Own) (m : Made) (l : List Made) (at : ℕ) (w : List ℕ × Written) (v : Own) → IsNoted own l → own w.0 ≡ Some v → v.cas ≡ Some w.1.cas
+  cleared_more : (own : List ℕ → Option Own) (m : Made) (l : List Made) (at : ℕ) (w : List ℕ × Written) (v : Own) → IsNoted own l → own w.0 ≡ Some v
+      → v.cas ≡ Some w.1.cas
       → slice_get t.works at ≡ Some w → m.step ≡ unstage w.0 w.1 → IsPublished m.answer.reply → Clearing at l → Clearing (at + 1) (m ∷ l)
   cleared_more own m l at w v it known cas here is off was = record {
     showing = was.showing;
@@ -160,7 +163,8 @@ module _ (t : Task) where
       by j u there false other before = inr (was.cleared j u (grind arith) there)
 
   -- the reading behind a commit in doubt shows it in vain
-  settles : (m : Made) (l : List Made) (e : Entry) → ReadsEntry t.atr t.attempt e m → e.state ≢ state.Committed → InDoubt l → CommitsUnsettled (m ∷ l) t.atr t.attempt
+  settles : (m : Made) (l : List Made) (e : Entry) → ReadsEntry t.atr t.attempt e m → e.state ≢ state.Committed → InDoubt l
+      → CommitsUnsettled (m ∷ l) t.atr t.attempt
   settles m l e reads apart was = record {
     unanswered = λ once. ⊎_elim (λ here. unread m reads.0 here) (λ later. was.unanswered later) once;
     read = λ _. inl (e, reads, apart);
@@ -193,7 +197,8 @@ module _ (t : Task) where
       holds_on l0 ready m (mine ++ l0) p (after t p m.answer.place m.answer.reply) (moves t m p asked fit) (noted l0 ready p mine run) (holds l0 ready p mine run)
 
   module _ (l0 : List Made) (ready : IsReady t l0) (who : Identity) (l : List Made) (it : IsNoted ready.own l) where
-    may_resolve : (at : ℕ) (w : List ℕ × Written) (content : Option Json) → slice_get t.works at ≡ Some w → w.1.content ≡ content → Clearing at l → MayResolve l w.0 w.1.cas content
+    may_resolve : (at : ℕ) (w : List ℕ × Written) (content : Option Json) → slice_get t.works at ≡ Some w → w.1.content ≡ content → Clearing at l
+        → MayResolve l w.0 w.1.cas content
     may_resolve at w content here is was =
         let own = ready.is_of.works.known at w here in
         record {
@@ -218,7 +223,8 @@ module _ (t : Task) where
       decided = inl was.shows;
       due_is = of_own (kept_weaker (λ k _. k.step ≡ step.Commit t.atr t.attempt t.lists)
           (λ k _. (r : ℕ) × ((k.step ≡ step.Commit r t.attempt t.lists) ⊎ (k.step ≡ step.Abort r t.attempt t.lists)))
-          (λ k _. decides k.step ≡ Some t.attempt) (λ k _. decides k.step ≡ Some t.attempt) l (λ k before is. (t.atr, inl is)) (λ k before decided. decided) was.last);
+          (λ k _. decides k.step ≡ Some t.attempt) (λ k _. decides k.step ≡ Some t.attempt) l
+          (λ k before is. (t.atr, inl is)) (λ k before decided. decided) was.last);
       cleared = cleared_all;
     }
       where

@@ -29,7 +29,8 @@ pub data IsPublished (r : Reply) : Type 0 where
 -- the call, with its answer, takes the commit from one phase to the next
 pub data Moves (t : Task) (m : Made) : Phase → Phase → Type 0 where
   commits_it : (left c : ℕ) → m.step ≡ step.Commit t.atr t.attempt t.lists → m.answer.reply ≡ reply.Done c → Moves t m (Sending left) (Going m.answer.place 0)
-  loses_entry : (left : ℕ) → m.step ≡ step.Commit t.atr t.attempt t.lists → m.answer.reply ≡ reply.NoEntry → Moves t m (Sending left) (Ended (EntryLost m.answer.place))
+  loses_entry : (left : ℕ) → m.step ≡ step.Commit t.atr t.attempt t.lists → m.answer.reply ≡ reply.NoEntry
+      → Moves t m (Sending left) (Ended (EntryLost m.answer.place))
   doubts : (left : ℕ) → m.step ≡ step.Commit t.atr t.attempt t.lists → IsInDoubt m.answer.reply → Moves t m (Sending left) (Reading left m.answer.place)
   finds_committed : (left commit : ℕ) (e : Entry) → ReadsEntry t.atr t.attempt e m → e.state ≡ state.Committed → Moves t m (Reading left commit) (Going commit 0)
   sends_again : (left commit : ℕ) (e : Entry) → ReadsEntry t.atr t.attempt e m → e.state ≢ state.Committed → Moves t m (Reading (suc left) commit) (Sending left)
@@ -40,7 +41,8 @@ pub data Moves (t : Task) (m : Made) : Phase → Phase → Type 0 where
       → Moves t m (Going commit at) (Going commit (at + 1))
   drops : (commit at : ℕ) → slice_get t.works at ≡ None → m.step ≡ step.DropEntry t.atr t.attempt false → IsDropped m.answer.reply
       → Moves t m (Going commit at) (Ended (Committed commit true))
-  fails : (commit at : ℕ) → step_for t (Going commit at) ≡ Some m.step → m.answer.reply ≡ reply.Failed → Moves t m (Going commit at) (Ended (Committed commit false))
+  fails : (commit at : ℕ) → step_for t (Going commit at) ≡ Some m.step → m.answer.reply ≡ reply.Failed
+      → Moves t m (Going commit at) (Ended (Committed commit false))
 
 pub some_same : {X : Type 0} {x y : X} → Some x ≡ Some y → x ≡ y
 some_same both = cc
@@ -62,7 +64,8 @@ module _ (t : Task) (m : Made) where
   again_moves zero commit e reads apart = gives_up commit e reads apart
   again_moves (suc left) commit e reads apart = sends_again left commit e reads apart
 
-  decided_moves : (left commit : ℕ) (e : Entry) → ReadsEntry t.atr t.attempt e m → (s : EntryState) → e.state ≡ s → Moves t m (Reading left commit) (decided left commit s)
+  decided_moves : (left commit : ℕ) (e : Entry) → ReadsEntry t.atr t.attempt e m → (s : EntryState) → e.state ≡ s
+      → Moves t m (Reading left commit) (decided left commit s)
   decided_moves left commit e reads state.Committed is = finds_committed left commit e reads is
   decided_moves left commit e reads state.Pending is = again_moves left commit e reads (λ same. absurd (cc))
   decided_moves left commit e reads state.Aborted is = again_moves left commit e reads (λ same. absurd (cc))
@@ -81,7 +84,8 @@ module _ (t : Task) (m : Made) where
   after_drop_moves commit at past asked is reply.Failed told fit = fails commit at asked told
   after_drop_moves commit at past asked is _ told fit = absurd (cc)
 
-  after_unstage_moves : (commit at : ℕ) (w : List ℕ × Written) → slice_get t.works at ≡ Some w → step_for t (Going commit at) ≡ Some m.step → m.step ≡ unstage w.0 w.1
+  after_unstage_moves : (commit at : ℕ) (w : List ℕ × Written) → slice_get t.works at ≡ Some w → step_for t (Going commit at) ≡ Some m.step
+      → m.step ≡ unstage w.0 w.1
       → (r : Reply) → m.answer.reply ≡ r → fits_unstage r ≡ true → Moves t m (Going commit at) (after_unstage commit at r)
   after_unstage_moves commit at w here asked is (reply.Done c) told fit = publishes commit at w here is (by_it c told)
   after_unstage_moves commit at w here asked is (reply.CasMismatch have) told fit = publishes commit at w here is (before_it have told)
