@@ -1,0 +1,5 @@
+pub mod Lists
+pub mod Spans
+pub mod Grown
+pub mod Snoc
+pub mod Closed

@@ -1,0 +1,4 @@
+pub mod Operating
+pub mod Closing
+pub mod Trying
+pub mod Running
