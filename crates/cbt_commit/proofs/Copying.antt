@@ -1,5 +1,5 @@
 -- The works of a commit are the own writes of its attempt.
-use Rattle.std.proofs.Common.{◌≡◌, IsSome, ℕ, zero, suc, ◌+◌, ◌<◌, ◌≤◌, ◌==◌, Bool, true, false, cond, ⊎_elim, List, [], ◌∷◌, length, drop, slice_get, Option, Some, None, refl, ap, sym, ◌∙◌, subst, arith}
+use Rattle.std.proofs.Common.{◌≡◌, ℕ, zero, suc, ◌+◌, ◌<◌, ◌≤◌, ◌==◌, Bool, true, false, cond, ⊎_elim, List, [], ◌∷◌, length, drop, slice_get, Option, Some, None, refl, ap, sym, ◌∙◌, subst, arith}
 use Rattle.std.proofs.lemmas.Map.Entries.{place_from_lookup, lookup_from_place}
 use Rattle.std.proofs.lemmas.Map.Keys.{IsDistinct-head, IsDistinct-tail}
 use Rattle.std.proofs.lemmas.Option.{none-some, slice_get_within, slice_get_cases}
@@ -12,7 +12,7 @@ use Rattle.indexmap.specs.IndexMap.{insert_entry}
 use Rattle.cbt_attempt.specs.OwnWrites.{noted}
 use Rattle.cbt_attempt.specs.declared.own.Own.{Own}
 use Rattle.cbt_commit.specs.Phases.{Task}
-use Rattle.cbt_commit.specs.Ready.{HasStamps, written_at, written_of, with_copy, copied_behind, copied, CopiesNotes, IsOf}
+use Rattle.cbt_commit.specs.Ready.{written_at, written_of, with_copy, copied_behind, copied, CopiesNotes, IsOf}
 use Rattle.cbt_commit.specs.Standing.{IsListedOnce}
 use Rattle.cbt_commit.specs.Written.{Written}
 
@@ -86,17 +86,18 @@ written_parts v (Some x) w is found = (is ∙ ap (λ (u : Written). Some u.cas) 
 abbrev Copies : List (List ℕ × Own) → List ℕ → Written → Type 0
 Copies writes q c = (v : Own) × (noted writes q ≡ Some v) × (v.cas ≡ Some c.cas) × (v.content ≡ c.content)
 
--- the own writes before a place were copied
+-- the own writes before a place were copied where their CAS is known
 pub record CopiedUpTo (writes : List (List ℕ × Own)) (at : ℕ) (works : List Work) : Type 0 where
   pub unique : IsDistinct bytes_eq (keys_of works)
   pub kept : (q : List ℕ) (c : Written) → lookup (bytes_eq q) works ≡ Some c → Copies writes q c
-  pub has : (j : ℕ) (e : List ℕ × Own) → j < at → slice_get writes j ≡ Some e → (c : Written) × (lookup (bytes_eq e.0) works ≡ Some c)
+  pub has : (j : ℕ) (e : List ℕ × Own) (w : Written) → j < at → slice_get writes j ≡ Some e → written_of (noted writes e.0) ≡ Some w
+      → (c : Written) × (lookup (bytes_eq e.0) works ≡ Some c)
 
 pub copied_none : (writes : List (List ℕ × Own)) (works : List Work) → works ≡ [] → IsDistinct bytes_eq (keys_of works) → CopiedUpTo writes 0 works
 copied_none writes works none unique = record {
   unique = unique;
   kept = λ q c found. absurd (none-some c (ap (λ ws. lookup (bytes_eq q) ws) (sym none) ∙ found));
-  has = λ j e before found. absurd (omega arith);
+  has = λ j e w before found is. absurd (omega arith);
 }
 
 pub copied_on : (writes : List (List ℕ × Own)) (at : ℕ) (old new : List Work) (e : List ℕ × Own) (c : Written) → slice_get writes at ≡ Some e
@@ -105,7 +106,7 @@ pub copied_on : (writes : List (List ℕ × Own)) (at : ℕ) (old new : List Wor
 copied_on writes at old new e c found is_written updates unique upto = record {
   unique = unique;
   kept = λ q s is. kept_by q s (bytes_eq e.0 q) refl (sym (updates q) ∙ is);
-  has = λ j f before is. has_by j f before is (bytes_eq e.0 f.0) refl;
+  has = λ j f w before is it. has_by j f w before is it (bytes_eq e.0 f.0) refl;
 }
   where
     its : (v : Own) × (noted writes e.0 ≡ Some v)
@@ -119,11 +120,11 @@ copied_on writes at old new e c found is_written updates unique upto = record {
         (its.0, ap (λ u. noted writes u) (sym (same_text e.0 q same)) ∙ its.1, parts.0, parts.1)
     kept_by q s false other is = upto.kept q s (sym (ap (λ b. cond b (Some c) (lookup (bytes_eq q) old)) other) ∙ is)
 
-    has_by : (j : ℕ) (f : List ℕ × Own) → j < at + 1 → slice_get writes j ≡ Some f → (b : Bool) → bytes_eq e.0 f.0 ≡ b
-        → (s : Written) × (lookup (bytes_eq f.0) new ≡ Some s)
-    has_by j f before is true same = (c, updates f.0 ∙ ap (λ b. cond b (Some c) (lookup (bytes_eq f.0) old)) same)
-    has_by j f before is false other =
-        let it = upto.has j f (earlier (j == at) refl) is in
+    has_by : (j : ℕ) (f : List ℕ × Own) (w : Written) → j < at + 1 → slice_get writes j ≡ Some f → written_of (noted writes f.0) ≡ Some w
+        → (b : Bool) → bytes_eq e.0 f.0 ≡ b → (s : Written) × (lookup (bytes_eq f.0) new ≡ Some s)
+    has_by j f w before is its true same = (c, updates f.0 ∙ ap (λ b. cond b (Some c) (lookup (bytes_eq f.0) old)) same)
+    has_by j f w before is its false other =
+        let it = upto.has j f w (earlier (j == at) refl) is its in
         (it.0, updates f.0 ∙ ap (λ b. cond b (Some c) (lookup (bytes_eq f.0) old)) other ∙ it.1)
       where
         that_place : j ≡ at → ⊥
@@ -134,16 +135,26 @@ copied_on writes at old new e c found is_written updates unique upto = record {
         earlier true here = absurd (that_place (grind arith))
         earlier false differs = grind arith
 
--- where each CAS is known, each own write is copied
-pub always_written : (writes : List (List ℕ × Own)) (at : ℕ) (e : List ℕ × Own) → slice_get writes at ≡ Some e → HasStamps (noted writes)
-    → IsSome (written_of (noted writes e.0))
-always_written writes at e found known =
-    let its = noted_at writes at e found in
-    subst (λ o. IsSome (written_of o)) (sym its.1) (by its.0 its.0.cas (known e.0 its.0 its.1))
+-- one whose CAS is not known is left out
+pub copied_past : (writes : List (List ℕ × Own)) (at : ℕ) (works : List Work) (e : List ℕ × Own) → slice_get writes at ≡ Some e
+    → written_of (noted writes e.0) ≡ None → CopiedUpTo writes at works → CopiedUpTo writes (at + 1) works
+copied_past writes at works e found unknown upto = record {
+  unique = upto.unique;
+  kept = upto.kept;
+  has = λ j f w before is its. has_by j f w before is its (j == at) refl;
+}
   where
-    by : (v : Own) (x : Option ℕ) → IsSome x → IsSome (written_at v x)
-    by v None some = some
-    by v (Some x) some = refl
+    has_by : (j : ℕ) (f : List ℕ × Own) (w : Written) → j < at + 1 → slice_get writes j ≡ Some f → written_of (noted writes f.0) ≡ Some w
+        → (b : Bool) → (j == at) ≡ b → (c : Written) × (lookup (bytes_eq f.0) works ≡ Some c)
+    has_by j f w before is its true here =
+        let place : j ≡ at = grind arith in
+        let same : f ≡ e = some_same (sym is ∙ ap (λ k. slice_get writes k) place ∙ found) in
+        absurd (none-some w (sym unknown ∙ ap (λ (u : List ℕ × Own). written_of (noted writes u.0)) (sym same) ∙ its))
+    has_by j f w before is its false differs = upto.has j f w (grind arith) is its
+
+written_there : (writes : List (List ℕ × Own)) (d q : List ℕ) (v : Own) (x : ℕ) → noted writes d ≡ Some v → v.cas ≡ Some x → d ≡ q
+    → written_of (noted writes q) ≡ Some (record { cas = x; content = v.content })
+written_there writes d q v x is stamp same = ap (λ u. written_of (noted writes u)) (sym same) ∙ ap written_of is ∙ ap (written_at v) stamp
 
 pub copied_all : (writes : List (List ℕ × Own)) (at : ℕ) (works : List Work) → slice_get writes at ≡ None → CopiedUpTo writes at works
     → CopiesNotes (noted writes) works
@@ -159,22 +170,18 @@ copied_all writes at works past upto = record {
     before : (i n : ℕ) → i < n → n ≤ at → i < at
     before i n less most = omega arith
 
-    all_of : (d : List ℕ) (v : Own) → noted writes d ≡ Some v → (j : ℕ) × (w : Work) × (slice_get works j ≡ Some w) × (w.0 ≡ d)
-    all_of d v is =
+    all_of : (d : List ℕ) (v : Own) (x : ℕ) → noted writes d ≡ Some v → v.cas ≡ Some x → (j : ℕ) × (w : Work) × (slice_get works j ≡ Some w) × (w.0 ≡ d)
+    all_of d v x is stamp =
         let place = place_from_lookup (bytes_eq d) writes v is in
         let within : place.0 < length writes = slice_get_within writes place.0 (place.1, v) place.2 in
-        let it = upto.has place.0 (place.1, v) (before place.0 (length writes) within beyond) place.2 in
+        let has = written_there writes d place.1 v x is stamp (same_text d place.1 place.3) in
+        let it = upto.has place.0 (place.1, v) (record { cas = x; content = v.content }) (before place.0 (length writes) within beyond) place.2 has in
         let at_key = place_from_lookup (bytes_eq place.1) works it.0 it.1 in
         (at_key.0, (at_key.1, it.0), at_key.2, sym (same_text place.1 at_key.1 at_key.3) ∙ sym (same_text d place.1 place.3))
 
--- what is copied and what is left to copy make the whole
-pub rest_on : (writes : List (List ℕ × Own)) (at : ℕ) (old new whole : List Work) (e : List ℕ × Own) (c : Written) → slice_get writes at ≡ Some e
-    → written_of (noted writes e.0) ≡ Some c → new ≡ insert_entry bytes_eq old e.0 c → copied_behind (noted writes) old (drop at writes) ≡ whole
-    → copied_behind (noted writes) new (drop (at + 1) writes) ≡ whole
-rest_on writes at old new whole e c found is_written inserted rest =
-    let left : drop at writes ≡ e ∷ drop (at + 1) writes = drop_next writes at e found ∙ ap (λ k. e ∷ drop k writes) (up at) in
-    ap (λ ws. copied_behind (noted writes) ws (drop (at + 1) writes)) (inserted ∙ sym (ap (with_copy old e.0) is_written))
-    ∙ sym (ap (copied_behind (noted writes) old) left) ∙ rest
+-- what is left at a place begins with what stands there
+left_at : (writes : List (List ℕ × Own)) (at : ℕ) (e : List ℕ × Own) → slice_get writes at ≡ Some e → drop at writes ≡ e ∷ drop (at + 1) writes
+left_at writes at e found = drop_next writes at e found ∙ ap (λ k. e ∷ drop k writes) (up at)
   where
     up : (n : ℕ) → suc n ≡ n + 1
     up n = omega arith
@@ -183,6 +190,21 @@ rest_on writes at old new whole e c found is_written inserted rest =
     drop_next [] k f is = absurd (none-some f is)
     drop_next (w ∷ ws) zero f is = ap (λ u. u ∷ ws) (some_same is)
     drop_next (w ∷ ws) (suc k) f is = drop_next ws k f is
+
+-- what is copied and what is left to copy make the whole
+pub rest_on : (writes : List (List ℕ × Own)) (at : ℕ) (old new whole : List Work) (e : List ℕ × Own) (c : Written) → slice_get writes at ≡ Some e
+    → written_of (noted writes e.0) ≡ Some c → new ≡ insert_entry bytes_eq old e.0 c → copied_behind (noted writes) old (drop at writes) ≡ whole
+    → copied_behind (noted writes) new (drop (at + 1) writes) ≡ whole
+rest_on writes at old new whole e c found is_written inserted rest =
+    ap (λ ws. copied_behind (noted writes) ws (drop (at + 1) writes)) (inserted ∙ sym (ap (with_copy old e.0) is_written))
+    ∙ sym (ap (copied_behind (noted writes) old) (left_at writes at e found)) ∙ rest
+
+pub rest_past : (writes : List (List ℕ × Own)) (at : ℕ) (works whole : List Work) (e : List ℕ × Own) → slice_get writes at ≡ Some e
+    → written_of (noted writes e.0) ≡ None → copied_behind (noted writes) works (drop at writes) ≡ whole
+    → copied_behind (noted writes) works (drop (at + 1) writes) ≡ whole
+rest_past writes at works whole e found unknown rest =
+    ap (λ ws. copied_behind (noted writes) ws (drop (at + 1) writes)) (sym (ap (with_copy works e.0) unknown))
+    ∙ sym (ap (copied_behind (noted writes) works) (left_at writes at e found)) ∙ rest
 
 pub rest_none : (writes : List (List ℕ × Own)) (at : ℕ) (works whole : List Work) → slice_get writes at ≡ None
     → copied_behind (noted writes) works (drop at writes) ≡ whole → works ≡ whole

@@ -237,7 +237,8 @@ module _ (t : Task) where
         cleared_all : (d : List ℕ) → IsListed d t.lists → Once (λ m before. In was.showing before × Clears t.attempt was.showing d m before) l
         cleared_all d listed =
             let own = (ready.is_of.lists listed.0 d).0 listed.1 in
-            let work = ready.is_of.works.all d own.0 own.1 in
+            let stamp = it.notes.known d own.0 own.1 in
+            let work = ready.is_of.works.all d own.0 stamp.0 own.1 stamp.1 in
             subst (λ q. Once (λ m before. In was.showing before × Clears t.attempt was.showing q m before) l) work.3
             (was.cleared work.0 work.1 (reached work.0 (length t.works) (slice_get_within t.works work.0 work.1 work.2) beyond) work.2)
 

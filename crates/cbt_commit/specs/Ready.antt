@@ -1,5 +1,5 @@
 -- What a commit needs of the attempt that it was begun with, and of its client's own list before.
-use Rattle.std.specs.Prelude.{◌≡◌, ℕ, List, [], ◌∷◌, slice_get, Option, Some, None, IsSome, bytes_eq}
+use Rattle.std.specs.Prelude.{◌≡◌, ℕ, List, [], ◌∷◌, slice_get, Option, Some, None, bytes_eq}
 use Rattle.indexmap.specs.IndexMap.{insert_entry}
 use Rattle.cbt_model.specs.History.{commits}
 use Rattle.cbt_model.specs.declared.events.Made.{Made}
@@ -10,10 +10,6 @@ use Rattle.cbt_book.specs.OwnLists.{Once}
 use Rattle.cbt_book.specs.Shown.{AddsEntry, aborts}
 use Rattle.cbt_commit.specs.Phases.{Task}
 use Rattle.cbt_commit.specs.Written.{Written}
-
--- the CAS of each own write is known
-abbrev pub HasStamps : (List ℕ → Option Own) → Type 0
-HasStamps own = (d : List ℕ) (v : Own) → own d ≡ Some v → IsSome v.cas
 
 -- what was staged, with its CAS where that is known
 abbrev pub written_at : Own → Option ℕ → Option Written
@@ -38,14 +34,14 @@ copied_behind own works (w ∷ writes) = copied_behind own (with_copy works w.0 
 abbrev pub copied : List (List ℕ × Own) → List (List ℕ × Written)
 copied writes = copied_behind (noted writes) [] writes
 
--- the works are just the own writes that are noted, each document once
+-- the works are just the own writes that are noted with their CAS, each document once
 pub record CopiesNotes (own : List ℕ → Option Own) (works : List (List ℕ × Written)) : Type 0 where
   pub known : (at : ℕ) (w : List ℕ × Written) → slice_get works at ≡ Some w
       → (v : Own) × (own w.0 ≡ Some v) × (v.cas ≡ Some w.1.cas) × (v.content ≡ w.1.content)
-  pub all : (d : List ℕ) (v : Own) → own d ≡ Some v → (at : ℕ) × (w : List ℕ × Written) × (slice_get works at ≡ Some w) × (w.0 ≡ d)
+  pub all : (d : List ℕ) (v : Own) (x : ℕ) → own d ≡ Some v → v.cas ≡ Some x → (at : ℕ) × (w : List ℕ × Written) × (slice_get works at ≡ Some w) × (w.0 ≡ d)
   pub apart : (i j : ℕ) (v w : List ℕ × Written) → slice_get works i ≡ Some v → slice_get works j ≡ Some w → v.0 ≡ w.0 → i ≡ j
 
--- a commit was begun with an attempt that has noted these own writes: its works are theirs, and its lists name them by kind
+-- a commit was begun with an attempt that has noted these own writes: its works are those with a CAS, and its lists name all by kind
 pub record IsOf (own : List ℕ → Option Own) (t : Task) : Type 0 where
   pub works : CopiesNotes own t.works
   pub lists : NamesByKind own t.lists

@@ -7,7 +7,7 @@ ghost use Rattle.cbt_model.specs.declared.events.Made.{Made};
 ghost use Rattle.cbt_model.specs.declared.steps.Step.{Step};
 ghost use Rattle.cbt_attempt.specs.OwnWrites.{lists_of, noted};
 ghost use Rattle.cbt_commit.specs.Phases.{after, calls_left, end_of, step_of, task_of};
-ghost use Rattle.cbt_commit.specs.Ready.{copied, GoesWell, HasStamps, IsOf, IsReady};
+ghost use Rattle.cbt_commit.specs.Ready.{copied, GoesWell, IsOf, IsReady};
 ghost use Rattle.cbt_commit.specs.Standing.{StandsFor};
 
 use crate::phases::{FinishEnd, Phase, after_commit, after_drop, after_reading, after_unstage};
@@ -38,18 +38,18 @@ pub struct Finish {
 }
 
 impl Finish {
-    /// The commit of this attempt, which has sent its entry and knows the stamp of each own write. Its own
-    /// writes are copied; it is an error where there is no memory for that.
+    /// The commit of this attempt, which has sent its entry. Its own writes are copied, but for those whose
+    /// stamps are not known: there are none while all goes well. It is an error where there is no memory for
+    /// that.
     pub fn begin(alloc: Global, attempt: &Attempt) -> Result<Finish, NoMemory>
         requires sent { IsSome attempt.now.sent }
-        requires known { HasStamps (noted attempt.now.writes) }
         ensures attempt { IfOk result (λ finish. finish.attempt ≡ attempt.now.id) }
         ensures atr { IfOk result (λ finish. Some finish.atr ≡ attempt.now.sent) }
         ensures lists { IfOk result (λ finish. finish.lists ≡ lists_of attempt.now.writes) }
         ensures works { IfOk result (λ finish. finish.works.entries ≡ copied attempt.now.writes) }
         ensures few { IfOk result (λ finish. length finish.works.entries ≤ length attempt.now.writes) }
         ensures phase { IfOk result (λ finish. finish.phase ≡ Phase.Sending 2) }
-        // The works are the own writes, and the lists name them.
+        // The works are the own writes whose stamps are known, and the lists name all.
         ensures own { IfOk result (λ finish. IsOf (noted attempt.now.writes) (task_of finish)) }
         ensures stands { IfOk result (λ finish. StandsFor finish []) }
         ensures ready { IfOk result (λ finish. (l : List Made)

@@ -4,7 +4,7 @@ ghost use Rattle.std.specs.Prelude.{◌≡◌, Some, IsTrue, IfOk, IfSome};
 ghost use Rattle.cbt_model.specs.Fitting.{step_fits};
 ghost use Rattle.cbt_attempt.specs.OwnWrites.{noted};
 ghost use Rattle.cbt_commit.specs.Phases.{unstage};
-ghost use Rattle.cbt_commit.specs.Ready.{copied, written_of, CopiesNotes, HasStamps};
+ghost use Rattle.cbt_commit.specs.Ready.{copied, written_of, CopiesNotes};
 
 use cbt_attempt::Attempt;
 use cbt_base::{DocId, Duplicate, NoMemory};
@@ -60,9 +60,8 @@ impl Work {
     }
 }
 
-// The own writes of an attempt by document, in their order.
+// The own writes of an attempt by document, in their order. One whose stamp is not known is left out.
 pub(crate) fn works_of(alloc: Global, attempt: &Attempt) -> Result<IndexMap<DocId, Work>, NoMemory>
-    requires { HasStamps (noted attempt.now.writes) }
     ensures order { IfOk result (λ works. works.entries ≡ copied attempt.now.writes) }
     ensures just { IfOk result (λ works. CopiesNotes (noted attempt.now.writes) works.entries) }
 {
@@ -71,8 +70,9 @@ pub(crate) fn works_of(alloc: Global, attempt: &Attempt) -> Result<IndexMap<DocI
         let Some((doc, _)) = attempt.write_at(at) else {
             return Ok(works);
         };
-        // The stamp of each own write is known.
-        let work = work_of(alloc, attempt, doc)?.unwrap();
+        let Some(work) = work_of(alloc, attempt, doc)? else {
+            continue;
+        };
         works.insert(doc.copy(alloc)?, work)?;
     }
     // No memory holds so many.

@@ -1,9 +1,8 @@
-use Rattle.std.proofs.Common.{rules, ◌≡◌, ℕ, List, slice_get, Option, Some, None, IsSome, sym, subst}
+use Rattle.std.proofs.Common.{rules, ◌≡◌, ℕ, List, slice_get, Some, None}
 use Rattle.cbt_attempt.specs.OwnWrites.{noted}
 use Rattle.cbt_attempt.specs.declared.own.Own.{Own}
 use Rattle.cbt_commit.specs.Ready.{copied, written_of}
-use Rattle.cbt_commit.specs.Written.{Written}
-use Rattle.cbt_commit.proofs.Copying.{copied_on, copied_all, always_written, rest_on, rest_none}
+use Rattle.cbt_commit.proofs.Copying.{copied_on, copied_all, copied_past, rest_on, rest_past, rest_none}
 use Rattle.cbt_commit.proofs.works.works_of.Goals as goal
 
 pub returns-in_default-clause-just : goal.returns-in_default-clause-just
@@ -16,22 +15,26 @@ returns-in_default-clause-order c =
     let past : slice_get c.args.attempt.now.writes c.loop-at.at ≡ None = search rules in
     rest_none c.args.attempt.now.writes c.loop-at.at c.loop-at.works.entries (copied c.args.attempt.now.writes) past c.loop-at.invariant.rest
 
-pub unwrap-work-requires : goal.unwrap-work-requires
-unwrap-work-requires c =
-    let writes = c.args.attempt.now.writes in
-    let found : slice_get writes c.loop-at.at ≡ Some (c.in-Some.doc.now, c.in-Some.field-0-1.now) = search rules in
-    subst (λ (work : Option Written). IsSome work) (sym c.in_ok-work_of.ensures)
-    (always_written writes c.loop-at.at (c.in-Some.doc.now, c.in-Some.field-0-1.now) found c.requires)
-
 pub loop-at-preserved : goal.loop-at-preserved
 loop-at-preserved c =
     let writes = c.args.attempt.now.writes in
     let e : List ℕ × Own = (c.in_ok-copy.field-0, c.in-Some.field-0-1.now) in
     let found : slice_get writes c.loop-at.at ≡ Some (c.in_ok-copy.field-0, c.in-Some.field-0-1.now) = search rules in
-    let is_written : written_of (noted writes c.in_ok-copy.field-0) ≡ Some c.unwrap-work.result = search rules in
+    let is_written : written_of (noted writes c.in_ok-copy.field-0) ≡ Some c.in-Some-2.work = search rules in
     record {
-      upto = copied_on writes c.loop-at.at c.loop-at.works.entries c.insert.new.self.entries e c.unwrap-work.result found is_written
+      upto = copied_on writes c.loop-at.at c.loop-at.works.entries c.insert.new.self.entries e c.in-Some-2.work found is_written
           c.in_ok-insert.ensures.updates.0 c.in_ok-insert.ensures.unique c.loop-at.invariant.upto;
-      rest = rest_on writes c.loop-at.at c.loop-at.works.entries c.insert.new.self.entries (copied writes) e c.unwrap-work.result found
+      rest = rest_on writes c.loop-at.at c.loop-at.works.entries c.insert.new.self.entries (copied writes) e c.in-Some-2.work found
           is_written c.in_ok-insert.ensures.entries c.loop-at.invariant.rest;
+    }
+
+pub loop-at-preserved-in_default-2 : goal.loop-at-preserved-in_default-2
+loop-at-preserved-in_default-2 c =
+    let writes = c.args.attempt.now.writes in
+    let e : List ℕ × Own = (c.in-Some.doc.now, c.in-Some.field-0-1.now) in
+    let found : slice_get writes c.loop-at.at ≡ Some (c.in-Some.doc.now, c.in-Some.field-0-1.now) = search rules in
+    let unknown : written_of (noted writes c.in-Some.doc.now) ≡ None = search rules in
+    record {
+      upto = copied_past writes c.loop-at.at c.loop-at.works.entries e found unknown c.loop-at.invariant.upto;
+      rest = rest_past writes c.loop-at.at c.loop-at.works.entries (copied writes) e found unknown c.loop-at.invariant.rest;
     }
