@@ -1,0 +1,9 @@
+pub mod Starts
+pub mod Works
+pub mod Beginnings
+pub mod Feeding
+pub mod Tries
+pub mod Licensing
+pub mod Following
+pub mod Deciding
+pub mod Closings

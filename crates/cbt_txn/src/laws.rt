@@ -1,0 +1,46 @@
+//! What the calls of a client come to. Each function does nothing: what it ensures is the law. They take
+//! no memory.
+
+ghost use Rattle.std.specs.Prelude.{◌≡◌, ◌≢◌, ℕ, List, ◌++◌, None, Some};
+ghost use Rattle.cbt_model.specs.declared.events.Made.{Made};
+ghost use Rattle.cbt_model.specs.declared.steps.Step.{Step};
+ghost use Rattle.cbt_book.specs.Licence.{MayTake};
+ghost use Rattle.cbt_book.specs.Numbers.{Identity};
+ghost use Rattle.cbt_book.specs.OwnLists.{Descends};
+ghost use Rattle.cbt_core.specs.Walk.{AttemptTerms};
+ghost use Rattle.cbt_txn.specs.Closings.{IsOf, NamesOnly, TryFollows, TryHalts, TryMayGoOn};
+ghost use Rattle.cbt_txn.specs.Licensing.{MayGoOn};
+ghost use Rattle.cbt_txn.specs.Tries.{outcome, step_now};
+ghost use Rattle.cbt_txn.specs.Works.{step_of};
+ghost use Rattle.cbt_txn.specs.declared.operations.Operations.{Operations};
+ghost use Rattle.cbt_txn.specs.declared.tries.Try.{Try};
+
+/// Each call that the operations of a try ask for is licensed by its client's whole own list.
+pub fn operations_are_licensed()
+    ensures { (who : Identity) (c : Operations) (l : List Made) (s : Step) → MayGoOn who c l → step_of c.work ≡ Some s
+        → MayTake who l s }
+{}
+
+/// So is each call that a try asks for.
+pub fn tries_are_licensed()
+    ensures { (who : Identity) (it : Try) (l : List Made) (s : Step) → TryMayGoOn who it l → step_now it ≡ Some s
+        → MayTake who l s }
+{}
+
+/// The calls that a try asks for name no attempt but its own, where they add an entry, stage or decide.
+pub fn steps_name_attempt()
+    ensures { (who : Identity) (id atrs : ℕ) (it : Try) (l : List Made) (s : Step) → TryMayGoOn who it l → IsOf id atrs it
+        → step_now it ≡ Some s → NamesOnly id s }
+{}
+
+/// A try may be told at any moment as one that was stopped.
+pub fn tries_stop()
+    ensures { (t : AttemptTerms) (it : Try) (l0 mine : List Made) → Descends (mine ++ l0) → it.operations.attempt.id ≡ t.id
+        → TryFollows t it l0 mine → TryHalts t it l0 mine }
+{}
+
+/// A try that has not ended asks for a call.
+pub fn tries_go_on()
+    ensures { (t : AttemptTerms) (it : Try) (l0 mine : List Made) → TryFollows t it l0 mine → outcome it ≡ None
+        → step_now it ≢ None }
+{}
