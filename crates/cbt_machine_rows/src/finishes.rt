@@ -1,99 +1,33 @@
 //! Commits.
 
-ghost use Rattle.std.specs.Prelude.{◌≡◌, [], IsSome, IfOk, IfSome};
-ghost use Rattle.cbt_attempt.specs.OwnWrites.{noted};
-ghost use Rattle.cbt_commit.specs.Ready.{HasStamps};
-
-use crate::bench::{Bench, MOST_CALLS, own_attempt};
+use crate::bench::{Bench, MOST_CALLS};
 use crate::rows::part;
 use crate::values::push_at;
-use cbt_attempt::{Attempt, Own};
-use cbt_base::{DocId, Duplicate, NoMemory};
+use cbt_attempt::Attempt;
+use cbt_base::NoMemory;
 use cbt_commit::{Finish, FinishEnd, Phase};
-use std::alloc::Global;
 
 /// Tells the calls of a commit, its end, and what it leaves.
 pub fn answer(bench: &mut Bench, told: &mut String, row: &str) -> Result<(), NoMemory> {
-    match begin(bench.alloc, &bench.attempt)? {
-        Some(finish) => {
-            let mut finish = finish;
-            let done = commit(bench, told, &mut finish, part(row, "then"));
-            drop(finish);
-            done
+    if bench.attempt.sent().is_none() || !knows_stamps(&bench.attempt) {
+        return Ok(told.push_str("not begun")?);
+    }
+    let mut finish = Finish::begin(bench.alloc, &bench.attempt)?;
+    let done = commit(bench, told, &mut finish, part(row, "then"));
+    drop(finish);
+    done
+}
+
+// Whether the stamp of each own write is known. A row has at most three of them.
+fn knows_stamps(attempt: &Attempt) -> bool {
+    for at in 0..3 {
+        if let Some((_, own)) = attempt.write_at(at) {
+            if own.cas.is_none() {
+                return false;
+            }
         }
-        None => Ok(told.push_str("not begun")?),
     }
-}
-
-// The commit of an attempt, where its entry was sent and the stamps of its own writes are known.
-fn begin(alloc: Global, attempt: &Attempt) -> Result<Option<Finish>, NoMemory> {
-    let Some(atr) = attempt.sent() else {
-        return Ok(None);
-    };
-    let mut known = own_attempt(alloc);
-    let finish = begin_known(alloc, attempt, atr, &mut known);
-    drop(known);
-    finish
-}
-
-// The commit of an attempt with the same own writes, noted in `known`.
-fn begin_known(
-    alloc: Global,
-    attempt: &Attempt,
-    atr: u16,
-    known: &mut Attempt,
-) -> Result<Option<Finish>, NoMemory>
-    requires { HasStamps (noted known.old.writes) }
-{
-    if !copy_three(alloc, attempt, known)? {
-        return Ok(None);
-    }
-    known.note_sent(atr);
-    Ok(Some(Finish::begin(alloc, known)?))
-}
-
-// Notes the own writes, of which there are at most three; false where the stamp of one is not known.
-fn copy_three(alloc: Global, attempt: &Attempt, known: &mut Attempt) -> Result<bool, NoMemory>
-    requires { HasStamps (noted known.old.writes) }
-    ensures { IfOk result (λ _. HasStamps (noted known.new.writes)) }
-{
-    if !copy_note(alloc, attempt, 0, known)? {
-        return Ok(false);
-    }
-    if !copy_note(alloc, attempt, 1, known)? {
-        return Ok(false);
-    }
-    copy_note(alloc, attempt, 2, known)
-}
-
-// Notes the own write at a place, where there is one; false where its stamp is not known.
-fn copy_note(
-    alloc: Global,
-    attempt: &Attempt,
-    at: usize,
-    known: &mut Attempt,
-) -> Result<bool, NoMemory>
-    requires { HasStamps (noted known.old.writes) }
-    ensures { IfOk result (λ _. HasStamps (noted known.new.writes)) }
-{
-    match attempt.write_at(at) {
-        None => Ok(true),
-        Some((doc, own)) if own.cas.is_some() => {
-            note(alloc, doc, own, known)?;
-            Ok(true)
-        }
-        Some(_) => Ok(false),
-    }
-}
-
-fn note(alloc: Global, doc: &DocId, own: &Own, known: &mut Attempt) -> Result<(), NoMemory>
-    requires stamped { IsSome own.now.cas }
-    requires known { HasStamps (noted known.old.writes) }
-    ensures { IfOk result (λ _. HasStamps (noted known.new.writes)) }
-{
-    let doc = doc.copy(alloc)?;
-    let own = own.copy(alloc)?;
-    known.note_staged(doc, own)
+    true
 }
 
 fn commit(
