@@ -18,7 +18,6 @@ pub mod GoingOn
 pub mod Begun
 pub mod TryLicensing
 pub mod Steps
-pub mod Closable
 pub mod Stepping
 pub mod Ending
 pub mod Following
