@@ -1,6 +1,6 @@
 //! A node with up to three documents, on which a machine and another actor make calls.
 
-ghost use Rattle.std.specs.Prelude.{◌≡◌, ◌≤◌, true, [], IsTrue, IfOk};
+ghost use Rattle.std.specs.Prelude.{◌≡◌, ◌≤◌, ◌<◌, ◌^◌, true, [], IsTrue, IfOk};
 ghost use Rattle.cbt_model.specs.Fitting.{content_fits, fits, step_fits};
 
 use crate::values::{body, content, document, push_value};
@@ -20,9 +20,9 @@ const OTHER: u32 = 2;
 /// The transaction record of the entries.
 const ATR: u16 = 12;
 /// How many transaction records there are.
-const ATRS: u16 = 16;
+pub const ATRS: u16 = 16;
 /// How many milliseconds an entry may stay.
-const EXP: u64 = 15000;
+pub const EXP: u64 = 15000;
 /// A machine is driven for at most so many calls.
 pub const MOST_CALLS: u32 = 40;
 /// Of more than so many calls only the number is told.
@@ -49,6 +49,11 @@ pub fn own_attempt(alloc: Global) -> Attempt
     ensures writes { result.writes ≡ [] }
 {
     Attempt::begin(alloc, attempt(OWN), ATRS, EXP)
+}
+
+/// The identifier of the own attempt.
+pub fn own_id() -> Id {
+    attempt(OWN)
 }
 
 // The attempt of an actor's client.
@@ -79,7 +84,8 @@ impl Bench {
     /// A call of the machine.
     pub fn call(&mut self, step: Step) -> Result<Answer, NoMemory>
         requires { IsTrue (step_fits step) }
-        ensures { IfOk result (λ answer. IsTrue (fits step answer.reply)) }
+        ensures fits { IfOk result (λ answer. IsTrue (fits step answer.reply)) }
+        ensures place { IfOk result (λ answer. answer.place < 2 ^ 62) }
     {
         self.note_letter(letter_of(&step));
         self.node.call(OWN, step)
@@ -288,7 +294,8 @@ fn node_of(alloc: Global, faults: Faults) -> Result<Plain<StepClock>, NoMemory> 
     Plain::new(alloc, opening, faults, None, StepClock { next: 0, step: 1 })
 }
 
-fn name_of(place: char) -> &'static str {
+/// The name of the document with this digit.
+pub fn name_of(place: char) -> &'static str {
     match place {
         '1' => "a",
         '2' => "b",

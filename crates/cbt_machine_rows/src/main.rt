@@ -1,5 +1,5 @@
-//! Reads rows from standard input and answers each: which calls the machines of an attempt make, and
-//! how they end.
+//! Reads rows from standard input and answers each: which calls the machines of an attempt, or a whole
+//! try, make, and how they end.
 //!
 //! Empty lines and lines that begin `#` are copied out. Every other line has the word of a machine and
 //! its scene (`rows.rt`).
@@ -11,6 +11,7 @@ mod finishes;
 mod gets;
 mod puts;
 mod rows;
+mod tries;
 mod undos;
 mod values;
 

@@ -6,7 +6,7 @@
 
 use crate::bench::Bench;
 use crate::values::kind_of;
-use crate::{agains, finishes, gets, puts, undos};
+use crate::{agains, finishes, gets, puts, tries, undos};
 use cbt_base::NoMemory;
 use std::alloc::Global;
 
@@ -28,6 +28,7 @@ fn answer_on(bench: &mut Bench, told: &mut String, row: &str) -> Result<(), NoMe
         "again" => agains::answer(bench, told, kind_of(kind)),
         "undo" => undos::answer(bench, told),
         "finish" => finishes::answer(bench, told, row),
+        "try" => tries::answer(bench, told, row),
         _ => Ok(told.push_str("no such row")?),
     }
 }
