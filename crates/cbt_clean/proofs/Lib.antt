@@ -1,0 +1,11 @@
+pub mod Moves
+pub mod Listing
+pub mod Touching
+pub mod Moving
+pub mod Keeping
+pub mod Bounds
+pub mod Cleaning
+pub mod Licensed
+pub mod Knowing
+pub mod Counting
+pub mod Ending

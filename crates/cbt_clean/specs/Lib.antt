@@ -1,0 +1,4 @@
+pub mod Staging
+pub mod Phases
+pub mod Ready
+pub mod Standing
