@@ -70,4 +70,4 @@ try_asks t it l0 mine fol going = by it.closing fol.closes going
     by _ (closings.open_yet unset unended ops) open_yet = works_ask t it.operations (ops.told ++ l0) ops.calls it.operations.work ops.works unended
     by _ (closings.finishes f calls ops parts unset follows done keep attempt stands unended) open_yet = finish_asks (finish.task_of f) f.phase unended
     by _ (closings.undoes u own calls commits ops parts follows why attempt is_of stands unended) open_yet = goes_on_asking (undo.task_of u) u.phase calls stands unended
-    by _ (closings.ended end follows right) open_yet = λ none. some_none open_yet
+    by _ (closings.ended end unstopped follows right) open_yet = λ none. some_none open_yet

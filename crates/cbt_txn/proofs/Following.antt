@@ -162,7 +162,7 @@ module _ (t : AttemptTerms) (it : Try) (l0 mine : List Made) (id : it.operations
           may_abort = λ once. absurd once;
           third = (λ set. absurd (true-false set unset), λ vain. absurd vain);
         } in
-        closings.ended attempt_end.Empty
+        closings.ended attempt_end.Empty (λ stopped. cc)
         (log_follows t log l0 mine [] [] mine refl falls all.tells id spans well
         (subst (λ e. Ends t (course_of t log [] []) mine e) (sym (end_is attempt_end.Empty is)) (may, refl, unsent none)))
         (right attempt_end.Empty is (ends_empty t (mine ++ l0) log (end_is attempt_end.Empty is)))
@@ -180,7 +180,7 @@ module _ (t : AttemptTerms) (it : Try) (l0 mine : List Made) (id : it.operations
           may_abort = λ once. absurd once;
           third = (λ set. absurd (true-false set unset), λ vain. absurd vain);
         } in
-        closings.ended attempt_end.RolledBack
+        closings.ended attempt_end.RolledBack (λ stopped. cc)
         (log_follows t log l0 told.told told.cut [] mine told.ops_are falls told.tells id spans well
         (subst (λ e. Ends t (course_of t log told.cut []) mine e) (sym (end_is attempt_end.RolledBack is))
         (told.may [] unkept, book.unsent (unsent none) refl, tt)))
@@ -225,10 +225,10 @@ module _ (t : AttemptTerms) (it : Try) (l0 mine : List Made) (id : it.operations
     commit_well unvain third = commit_closes t log all.all all.good f calls keep attempt stands (vain ∙ unvain) third
 
     -- a commit that ended otherwise than in vain
-    over : (end : AttemptEnd) → it.closing ≡ closing.Ended end → is_in_vain f ≡ false → ¬ ThirdInVain f.attempt calls
+    over : (end : AttemptEnd) → end ≢ attempt_end.Stopped → it.closing ≡ closing.Ended end → is_in_vain f ≡ false → ¬ ThirdInVain f.attempt calls
         → Ends t (course_of t log [] calls) mine end → IsRight t (mine ++ l0) log (Some (after_end it end)) → Closes t it l0 mine (closing.Ended end)
-    over end is unvain third ends follows =
-        closings.ended end
+    over end unstopped is unvain third ends follows =
+        closings.ended end unstopped
         (log_follows t log l0 ops [] calls mine parts falls all.tells id spans (commit_well unvain third)
         (subst (λ e. Ends t (course_of t log [] calls) mine e) (sym (end_is end is)) ends))
         (right end is follows)
@@ -237,16 +237,16 @@ module _ (t : AttemptTerms) (it : Try) (l0 mine : List Made) (id : it.operations
         → Closes t it l0 mine (closing.Ended (ended_by end))
     ended (finish_end.Committed place complete) ends unvain is =
         let so = ends_by (finish.task_of f) f.phase calls (finish_end.Committed place complete) stands.runs ends in
-        over (attempt_end.Committed place complete) is unvain so.2
+        over (attempt_end.Committed place complete) (λ stopped. cc) is unvain so.2
         (may_keep calls, subst (λ a. book.CommitHolds a place calls) attempt so.0, subst (λ a. book.IsFinished a calls complete) attempt so.1)
         (ends_committed t (mine ++ l0) log place complete (end_is (attempt_end.Committed place complete) is))
     ended (finish_end.EntryLost place) ends unvain is =
         let so = ends_by (finish.task_of f) f.phase calls (finish_end.EntryLost place) stands.runs ends in
-        over (attempt_end.EntryLost place) is unvain so.1 (may_keep calls, subst (λ a. LosesEntry a place calls) attempt so.0)
+        over (attempt_end.EntryLost place) (λ stopped. cc) is unvain so.1 (may_keep calls, subst (λ a. LosesEntry a place calls) attempt so.0)
         (transactions.after_loss place (end_is (attempt_end.EntryLost place) is))
     ended (finish_end.Unknown commit reading) ends unvain is =
         let so = ends_by (finish.task_of f) f.phase calls (finish_end.Unknown commit reading) stands.runs ends in
-        over (attempt_end.Unknown commit reading) is unvain so.1 (may_keep calls, subst (λ a. StaysUnknown a commit reading calls) attempt so.0)
+        over (attempt_end.Unknown commit reading) (λ stopped. cc) is unvain so.1 (may_keep calls, subst (λ a. StaysUnknown a commit reading calls) attempt so.0)
         (ends_unknown t (mine ++ l0) log commit reading (end_is (attempt_end.Unknown commit reading) is))
     ended (finish_end.NotCommitted place) ends unvain is = absurd (not_vain (finish_end.NotCommitted place) ends unvain place ends)
 
@@ -367,7 +367,7 @@ module _ (t : AttemptTerms) (it : Try) (l0 mine : List Made) (id : it.operations
     rolled : undo.end_of u ≡ Some undo_end.RolledBack → it.closing ≡ closing.Ended attempt_end.RolledBack → Closes t it l0 mine (closing.Ended attempt_end.RolledBack)
     rolled ends is =
         let a = (undo.task_of u).attempt in
-        closings.ended attempt_end.RolledBack
+        closings.ended attempt_end.RolledBack (λ stopped. cc)
         (ends_so attempt_end.RolledBack is (
           closed.may,
           subst (λ k. book.IsUndone k mine (calls ++ commits_before)) attempt
@@ -380,7 +380,7 @@ module _ (t : AttemptTerms) (it : Try) (l0 mine : List Made) (id : it.operations
     failed : (place : ℕ) → undo.end_of u ≡ Some (undo_end.Incomplete place) → it.closing ≡ closing.Ended (attempt_end.Incomplete place)
         → Closes t it l0 mine (closing.Ended (attempt_end.Incomplete place))
     failed place ends is =
-        closings.ended (attempt_end.Incomplete place)
+        closings.ended (attempt_end.Incomplete place) (λ stopped. cc)
         (ends_so (attempt_end.Incomplete place) is (
           closed.may,
           subst (λ k. Once (λ m before. (m.answer.place ≡ place) × (m.answer.reply ≡ reply.Failed) × HasAborted k (m ∷ before)) (calls ++ commits_before)) attempt

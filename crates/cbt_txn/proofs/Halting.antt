@@ -139,7 +139,7 @@ module _ (t : AttemptTerms) (it : Try) (l0 mine : List Made) (falls : Descends (
       none-some-end both = cc
   stops_in _ is (closings.undoes u own calls commits ops parts follows why attempt is_of stands going) =
       rollback_stops t it l0 mine id falls fol.first_is fol.past_is u own calls commits ops parts follows why attempt is_of stands (stopped_log (closing.Undo u) is refl)
-  stops_in _ is (closings.ended end follows right) = follows
+  stops_in _ is (closings.ended end unstopped follows right) = follows
 
   pub try_halts : TryHalts t it l0 mine
   try_halts = record { past_is = fol.past_is; follows = stops_in it.closing refl fol.closes }

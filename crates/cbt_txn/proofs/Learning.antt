@@ -68,13 +68,13 @@ module _ (who : Identity) (t : AttemptTerms) (it new : Try) (l0 mine : List Made
     is_unset _ (closings.open_yet unset going ops) is = unset
     is_unset _ (closings.finishes f calls ops parts unset fol done keep attempt stands going) is = unset
     is_unset _ (closings.undoes u own calls commits ops parts fol why attempt is_of stands going) is = cc
-    is_unset _ (closings.ended end fol right) is = cc
+    is_unset _ (closings.ended end unstopped fol right) is = cc
 
     pub open_operations : (cl : Closing) → Closes t it l0 mine cl → cl ≡ closing.Open → Follows t it.operations l0 mine
     open_operations _ (closings.open_yet unset going ops) is = ops
     open_operations _ (closings.finishes f calls ops parts unset fol done keep attempt stands going) is = cc
     open_operations _ (closings.undoes u own calls commits ops parts fol why attempt is_of stands going) is = cc
-    open_operations _ (closings.ended end fol right) is = cc
+    open_operations _ (closings.ended end unstopped fol right) is = cc
 
     module _ (is : it.closing ≡ closing.Open) (same_vain : new.not_committed ≡ it.not_committed) where
       unset_new : new.not_committed ≡ false
@@ -136,7 +136,7 @@ module _ (who : Identity) (t : AttemptTerms) (it new : Try) (l0 mine : List Made
             stands = stands_next calls (subst (λ k. finish_stands.StandsFor k calls) one stands);
           }
       finishing _ (closings.undoes u own calls commits ops parts fol why attempt is_of stands going) same_closing = cc
-      finishing _ (closings.ended end fol right) same_closing = cc
+      finishing _ (closings.ended end unstopped fol right) same_closing = cc
 
       sent_of : (l : List Made) (cl : Closing) → MayCloseOn who it l cl → cl ≡ closing.Finish f → it.operations.attempt.sent ≡ Some f.atr
       sent_of l _ (closings.open_yet may) same_closing = cc
@@ -189,7 +189,7 @@ module _ (who : Identity) (t : AttemptTerms) (it new : Try) (l0 mine : List Made
               (ap (λ k. m ∷ k) parts) fol_new (why_new commits ops why) (ap (λ k. k.attempt) (sym one) ∙ attempt)
               (subst (λ k. undo_ready.IsOf own (undo.task_of k)) one is_of)
               (undo_stands.goes_on u.phase calls m (subst (λ k. undo_stands.StandsFor k calls) one stands) asked fit) becomes
-          by _ (closings.ended end fol right) same_closing = cc
+          by _ (closings.ended end unstopped fol right) same_closing = cc
 
 -- ---- licences
 

@@ -28,3 +28,14 @@ pub mod Learning
 pub mod Asking
 pub mod Beginnings
 pub mod Outcomes
+pub mod Numbers
+pub mod Retried
+pub mod TxnTries
+pub mod TxnLicences
+pub mod BoundsOpen
+pub mod BoundsClosing
+pub mod TxnBounds
+pub mod Standing
+pub mod Advancing
+pub mod ClientBounds
+pub mod Answering

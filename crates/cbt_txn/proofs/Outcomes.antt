@@ -6,6 +6,10 @@ module _ {X E : Type 0} where
   ok_of (Ok value) A B gives a = gives a
   ok_of (Err fault) A B gives a = tt
 
+  pub ok_of_two : (r : Result X E) (A B C : Type 0) → (A → B → C) → OnOk r A → OnOk r B → OnOk r C
+  ok_of_two (Ok value) A B C gives a b = gives a b
+  ok_of_two (Err fault) A B C gives a b = tt
+
   pub ok_of_three : (r : Result X E) (A B C D : Type 0) → (A → B → C → D) → OnOk r A → OnOk r B → OnOk r C → OnOk r D
   ok_of_three (Ok value) A B C D gives a b c = gives a b c
   ok_of_three (Err fault) A B C D gives a b c = tt

@@ -1,5 +1,5 @@
 -- What a try is on its client's own list, and what that list has to show for the licence of its calls.
-use Rattle.std.specs.Prelude.{◌≡◌, ℕ, true, false, List, [], ◌∷◌, ◌++◌, Option, Some, None}
+use Rattle.std.specs.Prelude.{◌≡◌, ◌≢◌, ℕ, true, false, List, [], ◌∷◌, ◌++◌, Option, Some, None}
 use Rattle.cbt_model.specs.declared.events.Made.{Made}
 use Rattle.cbt_model.specs.declared.steps.Step.{Step}
 use Rattle.cbt_model.specs.declared.steps.Step.TheVariants as step
@@ -80,7 +80,7 @@ pub data Closes (t : AttemptTerms) (it : Try) (l0 mine : List Made) : Closing �
   undoes : (u : Undo) (own : List ℕ → Option Own) (calls commits ops : List Made) → mine ≡ (calls ++ commits) ++ ops → Follows t it.operations l0 ops
       → IsRolledBack t it commits ops → u.attempt ≡ t.id → undo_ready.IsOf own (undo.task_of u) → undo_stands.StandsFor u calls → undo.end_of u ≡ None
       → Closes t it l0 mine (closing.Undo u)
-  ended : (end : AttemptEnd) → AttemptFollows t (mine ++ l0) (past_of l0) (log_of it) → IsRight t (mine ++ l0) (log_of it) (outcome it)
+  ended : (end : AttemptEnd) → end ≢ attempt_end.Stopped → AttemptFollows t (mine ++ l0) (past_of l0) (log_of it) → IsRight t (mine ++ l0) (log_of it) (outcome it)
       → Closes t it l0 mine (closing.Ended end)
 
 -- the calls of the try are `mine`, behind those before it

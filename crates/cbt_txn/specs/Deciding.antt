@@ -1,5 +1,5 @@
 -- With what a try is closed, once no operation goes on.
-use Rattle.std.specs.Prelude.{◌≡◌, ℕ, Bool, true, false, List, [], Option, Some, None}
+use Rattle.std.specs.Prelude.{◌≡◌, ℕ, ◌≤◌, Bool, true, false, List, [], length, Option, Some, None}
 use Rattle.cbt_model.specs.declared.events.Made.{Made}
 use Rattle.cbt_model.specs.declared.steps.Reply.{Reply}
 use Rattle.cbt_book.specs.declared.clients.AttemptEnd.{AttemptEnd}
@@ -44,6 +44,7 @@ pub record BeginsFinish (a : Attempt) (f : Finish) : Type 0 where
   pub attempt : f.attempt ≡ a.id
   pub sent : a.sent ≡ Some f.atr
   pub going : finish.end_of f ≡ None
+  pub few : length f.works.entries ≤ length a.writes
   pub stands : finish_stands.StandsFor f []
   pub ready : (l : List Made) → finish_ready.GoesWell (noted a.writes) f.atr f.attempt l → finish_ready.IsReady (finish.task_of f) l
 
@@ -53,6 +54,7 @@ pub record BeginsUndo (a : Attempt) (u : Undo) : Type 0 where
   pub sent : a.sent ≡ Some u.atr
   pub going : undo.end_of u ≡ None
   pub own : undo_ready.IsOf (noted a.writes) (undo.task_of u)
+  pub few : length u.works.entries ≤ length a.writes
   pub stands : undo_stands.StandsFor u []
   pub ready : (l : List Made) → undo_ready.IsAbortable a.id u.atr (noted a.writes) l → undo_ready.IsReady (undo.task_of u) l
 

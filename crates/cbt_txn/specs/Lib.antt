@@ -7,3 +7,7 @@ pub mod Licensing
 pub mod Following
 pub mod Deciding
 pub mod Closings
+pub mod Transactions
+pub mod Clients
+pub mod Bounds
+pub mod TxnBounds

@@ -8,6 +8,8 @@ ghost use Rattle.cbt_book.specs.Licence.{MayTake};
 ghost use Rattle.cbt_book.specs.Numbers.{Identity};
 ghost use Rattle.cbt_book.specs.OwnLists.{Descends};
 ghost use Rattle.cbt_core.specs.Walk.{AttemptTerms};
+ghost use Rattle.cbt_expr.specs.declared.plans.Op.{Op};
+ghost use Rattle.cbt_txn.specs.Bounds.{try_left};
 ghost use Rattle.cbt_txn.specs.Closings.{IsOf, NamesOnly, TryFollows, TryHalts, TryMayGoOn};
 ghost use Rattle.cbt_txn.specs.Licensing.{MayGoOn};
 ghost use Rattle.cbt_txn.specs.Tries.{outcome, step_now};
@@ -43,4 +45,9 @@ pub fn tries_stop()
 pub fn tries_go_on()
     ensures { (t : AttemptTerms) (it : Try) (l0 mine : List Made) → TryFollows t it l0 mine → outcome it ≡ None
         → step_now it ≢ None }
+{}
+
+/// A try that has no calls left asks for none. With each answer fewer are left.
+pub fn tries_stay_bounded()
+    ensures at_end { (ops : List Op) (it : Try) → try_left ops it ≡ 0 → step_now it ≡ None }
 {}

@@ -1,6 +1,6 @@
 //! The operations of one try.
 
-ghost use Rattle.std.specs.Prelude.{◌≡◌, ◌≤◌, ◌<◌, ◌+◌, ◌^◌, Bool, true, false, nat_lt, List, [], ◌∷◌, ◌++◌, length, slice_get, Some, None, IsTrue, IsSome, IfOk, IfSome, OnOk, OnErr};
+ghost use Rattle.std.specs.Prelude.{◌≡◌, ◌≤◌, ◌<◌, ◌+◌, ◌*◌, ◌^◌, Bool, true, false, nat_lt, List, [], ◌∷◌, ◌++◌, length, slice_get, Some, None, IsTrue, IsSome, IfOk, IfSome, OnOk, OnErr};
 ghost use Rattle.cbt_core.specs.Operations.{is_good};
 ghost use Rattle.cbt_core.specs.Walk.{AttemptTerms};
 ghost use Rattle.cbt_model.specs.Fitting.{fits, step_fits};
@@ -14,6 +14,7 @@ ghost use Rattle.cbt_read.specs.declared.gets.Get.{Get};
 ghost use Rattle.cbt_stage.specs.Phases as put_phases;
 ghost use Rattle.cbt_stage.specs.Rewrites.{asked_by};
 ghost use Rattle.cbt_txn.specs.Beginnings.{Begins, CanBegin};
+ghost use Rattle.cbt_txn.specs.Bounds.{due_left, fed_left, open_left, rest_left};
 ghost use Rattle.cbt_txn.specs.Feeding.{fed, fed_again, fed_put, fed_read, learnt, logged, marked, rebound, went_on, with_rewrite, with_staging};
 ghost use Rattle.cbt_txn.specs.Following.{Answers, Between, Fits, Follows, GoesOn, Halts, IsNew, IsUnder, Reads};
 ghost use Rattle.cbt_txn.specs.Licensing.{GoesWell, MayCome, MayGoOn, MayRead, Owns};
@@ -97,6 +98,8 @@ impl Operations {
         ensures licensed { (who : Identity) (l : List Made) → Owns who attempt l → GoesWell attempt l
             → IfOk result (λ operations. MayGoOn who operations l) }
         ensures attempt { IfOk result (λ operations. operations.attempt ≡ attempt) }
+        ensures few { IfOk result (λ operations. open_left ops.now operations
+            ≤ 25 * length ops.now + 2 * length attempt.writes + 8) }
     {
         let mut operations = Operations {
             attempt,
@@ -146,6 +149,8 @@ impl Operations {
         ensures licensed { (who : Identity) (l : List Made) (s : Step) → step_of self.old.work ≡ Some s → MayGoOn who self.old l
             → OnOk result (MayGoOn who self.new (record { step = s; answer = answer } ∷ l)) }
         ensures same { (self.new.attempt.id ≡ self.old.attempt.id) × (self.new.attempt.atrs ≡ self.old.attempt.atrs) }
+        // So they and what closes the try come to an end, after so many calls at most.
+        ensures fewer { OnOk result (open_left ops.now self.new < open_left ops.now self.old) }
     {
         let now = answer.now;
         self.mark(answer.place);
@@ -167,6 +172,7 @@ impl Operations {
         ensures licensed { (who : Identity) (l : List Made) → Owns who self.old.attempt l → MayCome who self.old.attempt l fed
             → OnOk result (MayGoOn who self.new l) }
         ensures same { (self.new.attempt.id ≡ self.old.attempt.id) × (self.new.attempt.atrs ≡ self.old.attempt.atrs) }
+        ensures few { OnOk result (open_left ops.now self.new ≤ fed_left fed + rest_left ops.now self.old) }
     {
         match fed {
             Fed::Going { work } => {
@@ -265,6 +271,7 @@ impl Operations {
         ensures licensed { (who : Identity) (l : List Made) → Owns who self.old.attempt l → GoesWell self.old.attempt l → MayRead doc end l
             → OnOk result (MayGoOn who self.new l) }
         ensures same { (self.new.attempt.id ≡ self.old.attempt.id) × (self.new.attempt.atrs ≡ self.old.attempt.atrs) }
+        ensures few { OnOk result (open_left ops.now self.new ≤ fed_left (Fed.Read doc write end) + rest_left ops.now self.old) }
     {
         match (end, write) {
             (GetEnd::Contended, _) => self.close(alloc, ops, OpAnswer::Contended),
@@ -298,6 +305,7 @@ impl Operations {
         ensures licensed { (who : Identity) (l : List Made) → Owns who self.old.attempt l → GoesWell self.old.attempt l → MayRead doc (GetEnd.Value seen) l
             → OnOk result (MayGoOn who self.new l) }
         ensures attempt { self.new.attempt ≡ self.old.attempt }
+        ensures few { OnOk result (open_left ops.now self.new ≤ 8 + rest_left ops.now self.old) }
     {
         if !agrees(write.kind, &seen.value) {
             return self.close(alloc, ops, refusal(write.kind, When::At(seen.moment)));
@@ -318,6 +326,7 @@ impl Operations {
         ensures licensed { (who : Identity) (l : List Made) → Owns who self.old.attempt l → (is_good answer ≡ true → GoesWell self.old.attempt l)
             → OnOk result (MayGoOn who self.new l) }
         ensures attempt { self.new.attempt ≡ self.old.attempt }
+        ensures few { OnOk result (open_left ops.now self.new ≤ rest_left ops.now self.old) }
     {
         if self.log_on(alloc, ops, answer)? {
             self.advance(alloc, ops)
@@ -335,6 +344,7 @@ impl Operations {
             → OnErr result (Halts t self.new.logs l0 told) }
         ensures licensed { (who : Identity) (l : List Made) → Owns who self.old.attempt l → GoesWell self.old.attempt l → OnOk result (MayGoOn who self.new l) }
         ensures attempt { self.new.attempt ≡ self.old.attempt }
+        ensures few { OnOk result (open_left ops.now self.new ≤ due_left ops.now self.old) }
     {
         for at in self.logs.len()..ops.len() {
             if !self.begin_op(alloc, ops, &ops.as_slice()[at])? {
@@ -355,6 +365,7 @@ impl Operations {
         ensures licensed { (who : Identity) (l : List Made) → Owns who self.old.attempt l → GoesWell self.old.attempt l
             → IfOk result (λ on. on ≡ false → MayGoOn who self.new l) }
         ensures more { IfOk result (λ on. on ≡ true → length self.new.logs ≡ length self.old.logs + 1) }
+        ensures few { IfOk result (λ on. on ≡ false → open_left ops.now self.new ≤ 25 + rest_left ops.now self.old) }
         ensures attempt { self.new.attempt ≡ self.old.attempt }
     {
         match start_op(alloc, op, &self.attempt, &self.bound)? {

@@ -1,6 +1,6 @@
 //! One try of a transaction.
 
-ghost use Rattle.std.specs.Prelude.{◌≡◌, ◌≢◌, ◌≤◌, ◌<◌, ◌+◌, ◌^◌, ℕ, Bool, true, false, nat_lt, List, [], ◌∷◌, ◌++◌, None, Some, IsTrue, IsSome, IfOk, IfSome, OnOk, OnErr};
+ghost use Rattle.std.specs.Prelude.{◌≡◌, ◌≢◌, ◌≤◌, ◌<◌, ◌+◌, ◌*◌, ◌^◌, ℕ, Bool, true, false, nat_lt, List, [], ◌∷◌, ◌++◌, length, None, Some, IsTrue, IsSome, IfOk, IfSome, OnOk, OnErr};
 ghost use Rattle.cbt_core.specs.Walk.{AttemptTerms};
 ghost use Rattle.cbt_model.specs.Fitting.{fits, step_fits};
 ghost use Rattle.cbt_model.specs.declared.events.Made.{Made};
@@ -8,6 +8,7 @@ ghost use Rattle.cbt_model.specs.declared.steps.Step.{Step};
 ghost use Rattle.cbt_book.specs.Numbers.{Identity};
 ghost use Rattle.cbt_book.specs.OwnLists.{Descends};
 ghost use Rattle.cbt_book.specs.Spans.{past_of};
+ghost use Rattle.cbt_txn.specs.Bounds.{open_left, try_left};
 ghost use Rattle.cbt_txn.specs.Closings.{end_in, log_of, IsNewTo, IsOf, TryFollows, TryHalts, TryMayGoOn};
 ghost use Rattle.cbt_txn.specs.Deciding.{ended_by, finish_after, is_in_vain, is_kept, is_over, undo_after, undone, Closed, Commits, Finished, RollsBack};
 ghost use Rattle.cbt_commit.specs.Phases as finish_phases;
@@ -29,7 +30,8 @@ use cbt_rollback::{Undo, UndoEnd};
 use std::alloc::Global;
 use std::mem;
 
-/// One try of a transaction: its operations, and then its commit or its rollback.
+/// One try of a transaction: its operations, and then its commit or its rollback. With n operations it
+/// makes at most 25 n + 10 calls.
 #[derive(Drop)]
 pub struct Try {
     pub operations: Operations,
@@ -76,6 +78,7 @@ impl Try {
             → IfOk result (λ it. TryFollows t it l0 []) }
         ensures licensed { (who : Identity) (l : List Made) → IsNewTo who id l → IfOk result (λ it. TryMayGoOn who it l) }
         ensures of { IfOk result (λ it. IsOf id atrs it) }
+        ensures few { IfOk result (λ it. try_left plan.now.ops it ≤ 25 * length plan.now.ops + 10) }
     {
         let attempt = Attempt::begin(alloc, id, atrs, plan.hold);
         let operations = Operations::begin(alloc, attempt, past, &plan.ops)?;
@@ -127,6 +130,9 @@ impl Try {
         ensures licensed { (who : Identity) (l : List Made) (s : Step) → step_now self.old ≡ Some s → TryMayGoOn who self.old l
             → OnOk result (TryMayGoOn who self.new (record { step = s; answer = answer } ∷ l)) }
         ensures same { IsOf self.old.operations.attempt.id self.old.operations.attempt.atrs self.new }
+        ensures cut { OnErr result (self.new.closing ≡ Closing.Open) }
+        // So it ends, after so many calls at most.
+        ensures fewer { OnOk result (try_left plan.now.ops self.new < try_left plan.now.ops self.old) }
     {
         self.mark(answer.place);
         match mem::replace(&mut self.closing, Closing::Open) {
@@ -180,6 +186,7 @@ impl Try {
         ensures rest { self.new ≡ record self.old { operations = self.new.operations; closing = self.new.closing } }
         ensures open_still { OnErr result (self.new.closing ≡ Closing.Open) }
         ensures same { (self.new.operations.attempt.id ≡ self.old.operations.attempt.id) × (self.new.operations.attempt.atrs ≡ self.old.operations.attempt.atrs) }
+        ensures fewer { OnOk result (open_left plan.now.ops self.new.operations < open_left plan.now.ops self.old.operations) }
     {
         self.operations.learn(alloc, &plan.ops, late, answer)?;
         self.closing = closed(alloc, plan.keep, &self.operations)?;

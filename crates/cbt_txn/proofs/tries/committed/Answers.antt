@@ -15,6 +15,7 @@ returns c =
       attempt = it.attempt;
       sent = sym it.atr;
       going = ap finish.end_in it.phase;
+      few = it.few;
       stands = it.stands;
       ready = it.ready;
     })

@@ -17,6 +17,7 @@ returns c =
       sent = sym it.atr;
       going = undo_goes (undo.task_of c.in_ok-undo.undo) c.in_ok-undo.undo.phase [] it.stands refl;
       own = it.own;
+      few = it.few;
       stands = it.stands;
       ready = λ l abortable. it.ready l c.in_ok-undo.undo.atr (sym it.atr) abortable;
     })

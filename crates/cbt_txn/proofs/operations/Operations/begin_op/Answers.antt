@@ -11,6 +11,7 @@ use Rattle.cbt_core.specs.Operations.{is_good}
 use Rattle.cbt_txn.proofs.Begun.{work_begun}
 use Rattle.cbt_txn.proofs.Steps.{turned, answered_at_once}
 use Rattle.cbt_txn.proofs.operations.Operations.begin_op.Goals as goal
+use Rattle.cbt_txn.proofs.BoundsOpen.{answered_few, begun_few, turned_few}
 
 pub returns-in_err-beginning-clause-halts : goal.returns-in_err-beginning-clause-halts
 returns-in_err-beginning-clause-halts c t l0 told it = on_err_of c.from_residual.result _ (between_halts t c.args.self.now l0 told it)
@@ -51,3 +52,13 @@ pub returns-in-Answered-clause-licensed : goal.returns-in-Answered-clause-licens
 returns-in-Answered-clause-licensed c who l owns well =
     answered_at_once who l (logged c.args.ops.now c.args.self.now c.in-Answered.answer) c.log_on.new.self (is_good c.in-Answered.answer) c.log_on.result
     c.log_on.ensures.good c.log_on.ensures.ok owns
+
+pub returns-in_ok-work-in-Calls-clause-few : goal.returns-in_ok-work-in-Calls-clause-few
+returns-in_ok-work-in-Calls-clause-few c same =
+    turned_few c.args.ops.now c.args.self.now c.set_work.new.self c.in_ok-work-in-Calls.work 25 c.set_work.ensures
+    (begun_few c.args.self.now.attempt c.in-Calls.beginning c.in_ok-work-in-Calls.work c.in_ok-work-in-Calls.ensures)
+
+pub returns-in-Answered-clause-few : goal.returns-in-Answered-clause-few
+returns-in-Answered-clause-few c =
+    answered_few c.args.ops.now c.args.self.now c.log_on.new.self c.in-Answered.answer (is_good c.in-Answered.answer) c.log_on.result c.log_on.ensures.good
+    c.log_on.ensures.ok

@@ -6,6 +6,8 @@ use Rattle.cbt_txn.proofs.Telling.{answers_halt}
 use Rattle.cbt_txn.specs.Feeding.{logged}
 use Rattle.cbt_txn.proofs.Steps.{went_no_further}
 use Rattle.cbt_txn.proofs.operations.Operations.close.Goals as goal
+use Rattle.cbt_txn.proofs.BoundsOpen.{at_most, refused_few, told_few}
+use Rattle.cbt_txn.proofs.Outcomes.{ok_of}
 
 pub returns-in_err-log_on-clause-halts : goal.returns-in_err-log_on-clause-halts
 returns-in_err-log_on-clause-halts c t l0 told calls same falls it =
@@ -36,3 +38,14 @@ pub returns-else-branch-clause-licensed : goal.returns-else-branch-clause-licens
 returns-else-branch-clause-licensed c who l owns well =
     went_no_further who l (logged c.args.ops.now c.args.self.now c.args.answer) c.log_on.new.self (is_good c.args.answer)
     (sym c.in_ok-log_on.ensures.good ∙ c.if-branch.false) c.in_ok-log_on.ensures.ok owns
+
+pub returns-then-branch-clause-few : goal.returns-then-branch-clause-few
+returns-then-branch-clause-few c =
+    ok_of c.advance.result _ _
+    (λ few. at_most _ _ _ few (told_few c.args.ops.now c.args.self.now c.log_on.new.self c.args.answer (is_good c.args.answer) c.in_ok-log_on.ensures.ok))
+    c.advance.ensures.few
+
+pub returns-else-branch-clause-few : goal.returns-else-branch-clause-few
+returns-else-branch-clause-few c =
+    refused_few c.args.ops.now c.args.self.now c.log_on.new.self c.args.answer (is_good c.args.answer) (sym c.in_ok-log_on.ensures.good ∙ c.if-branch.false)
+    c.in_ok-log_on.ensures.ok

@@ -1,9 +1,12 @@
-use Rattle.std.proofs.Common.{ap, sym, ◌∙◌, subst, ◌++◌}
+use Rattle.std.proofs.Common.{◌+◌, ◌≤◌, OnOk, ap, sym, ◌∙◌, subst, ◌++◌}
 use Rattle.cbt_core.specs.Operations.{is_good}
 use Rattle.cbt_txn.specs.Licensing.{MayCome}
 use Rattle.cbt_txn.proofs.Steps.{turned}
 use Rattle.cbt_txn.proofs.operations.Operations.go_on.Goals as goal
 use Rattle.cbt_txn.specs.Following.{Answers, Fits, Follows}
+use Rattle.cbt_txn.specs.Bounds.{fed_left, open_left, rest_left}
+use Rattle.cbt_txn.proofs.BoundsOpen.{few_more, fed_turned}
+use Rattle.cbt_txn.proofs.Outcomes.{ok_of}
 
 pub returns-in-Going-clause-follows : goal.returns-in-Going-clause-follows
 returns-in-Going-clause-follows c t l0 told calls same falls it =
@@ -41,3 +44,16 @@ pub returns-in-Written-clause-licensed : goal.returns-in-Written-clause-licensed
 returns-in-Written-clause-licensed c who l owns may =
     let it = subst (λ it. MayCome who c.args.self.now.attempt l it) c.in-Written.is may in
     c.close.ensures.licensed who l owns (λ good. it (ap is_good (sym c.answer_of.ensures) ∙ good))
+
+pub returns-in-Going-clause-few : goal.returns-in-Going-clause-few
+returns-in-Going-clause-few c =
+    fed_turned c.args.ops.now c.args.self.now c.set_work.new.self c.args.fed c.in-Going.work c.set_work.ensures c.in-Going.is
+
+pub returns-in-Read-clause-few : goal.returns-in-Read-clause-few
+returns-in-Read-clause-few c =
+    subst (λ f. OnOk c.got.result (open_left c.args.ops.now c.got.new.self ≤ fed_left f + rest_left c.args.ops.now c.args.self.now)) (sym c.in-Read.is)
+    c.got.ensures.few
+
+pub returns-in-Written-clause-few : goal.returns-in-Written-clause-few
+returns-in-Written-clause-few c =
+    ok_of c.close.result _ _ (λ few. few_more _ (rest_left c.args.ops.now c.args.self.now) (fed_left c.args.fed) few) c.close.ensures.few

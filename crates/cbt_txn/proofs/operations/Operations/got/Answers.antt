@@ -1,4 +1,4 @@
-use Rattle.std.proofs.Common.{sym, subst, ℕ, List, ap, ◌∙◌}
+use Rattle.std.proofs.Common.{◌+◌, ◌≤◌, OnOk, sym, subst, ℕ, List, ap, ◌∙◌}
 use Rattle.cbt_txn.specs.Licensing.{GoesWell, MayRead, Owns}
 use Rattle.cbt_txn.proofs.Owning.{owns_noticed, well_noticed}
 use Rattle.cbt_txn.proofs.operations.Operations.got.Goals as goal
@@ -11,6 +11,10 @@ use Rattle.cbt_txn.specs.Following.{Answers, Reads}
 use Rattle.cbt_txn.specs.declared.operations.Operations.{Operations}
 use Rattle.cbt_txn.proofs.Readings.{reads_contended, reads_failed, reads_halt, reads_value}
 use Rattle.cbt_txn.proofs.Stepping.{on_err_of}
+use Rattle.cbt_txn.specs.Bounds.{fed_left, open_left, rest_left}
+use Rattle.cbt_txn.proofs.BoundsOpen.{few_more, noted_few}
+use Rattle.cbt_txn.proofs.Outcomes.{ok_of}
+use Rattle.cbt_txn.specs.declared.operations.Fed.TheVariants as fed
 
 abbrev noting : Operations → List ℕ → Reading → Operations
 noting n d seen = record n { attempt = record n.attempt { seen = with_noted n.attempt.seen d seen } }
@@ -83,3 +87,26 @@ returns-in_ok-note_read-in-Value-None-clause-licensed c who l owns well read =
     c.close-in-Value-None.ensures.licensed who l
     (subst (λ a. Owns who a l) (sym noticed) (owns_noticed who c.args.self.now.attempt l c.args.doc c.in-Value-None.seen it.0 it.1 it.2 owns))
     (λ good. subst (λ a. GoesWell a l) (sym noticed) (well_noticed who c.args.self.now.attempt l c.args.doc c.in-Value-None.seen well))
+
+pub returns-in-Contended-default-clause-few : goal.returns-in-Contended-default-clause-few
+returns-in-Contended-default-clause-few c =
+    ok_of c.close.result _ _ (λ few. few_more _ (rest_left c.args.ops.now c.args.self.now) (fed_left (fed.Read c.args.doc c.args.write c.args.end)) few)
+    c.close.ensures.few
+
+pub returns-in-CallFailed-default-clause-few : goal.returns-in-CallFailed-default-clause-few
+returns-in-CallFailed-default-clause-few c =
+    ok_of c.close-in-CallFailed-default.result _ _
+    (λ few. few_more _ (rest_left c.args.ops.now c.args.self.now) (fed_left (fed.Read c.args.doc c.args.write c.args.end)) few)
+    c.close-in-CallFailed-default.ensures.few
+
+pub returns-in-Value-Some-clause-few : goal.returns-in-Value-Some-clause-few
+returns-in-Value-Some-clause-few c =
+    subst (λ w. OnOk c.write-in-Value-Some.result
+    (open_left c.args.ops.now c.write-in-Value-Some.new.self ≤ fed_left (fed.Read c.args.doc w c.args.end) + rest_left c.args.ops.now c.args.self.now))
+    (sym c.in-Value-Some.is-1) c.write-in-Value-Some.ensures.few
+
+pub returns-in_ok-note_read-in-Value-None-clause-few : goal.returns-in_ok-note_read-in-Value-None-clause-few
+returns-in_ok-note_read-in-Value-None-clause-few c =
+    ok_of c.close-in-Value-None.result _ _
+    (λ few. noted_few c.args.ops.now c.args.self.now _ _ (fed_left (fed.Read c.args.doc c.args.write c.args.end)) _ c.in_ok-note_read-in-Value-None.ensures.ok few)
+    c.close-in-Value-None.ensures.few

@@ -10,6 +10,9 @@ use Rattle.cbt_txn.specs.Following.{Follows, Halts}
 use Rattle.cbt_txn.specs.declared.operations.Operations.{Operations}
 use Rattle.cbt_txn.proofs.Stepping.{falls_split, learns_fits, learns_halt, learns_late, on_err_of}
 use Rattle.cbt_txn.proofs.Taken.{made_of}
+use Rattle.cbt_txn.specs.Bounds.{open_left}
+use Rattle.cbt_txn.proofs.BoundsOpen.{below, late_fewer, took_in_fewer}
+use Rattle.cbt_txn.proofs.Outcomes.{ok_of}
 
 abbrev taken_on : Operations → Answer → Operations
 taken_on n answer = record n { attempt = learnt n.attempt n.work answer.place answer.reply; work = work.Done }
@@ -73,3 +76,16 @@ returns-clause-licensed c who l s asked may =
     let it = took_in who l s c.args.answer c.args.self.now c.mark.new.self c.take_in.new.self c.in_ok-fed.fed asked (c.requires.fits s asked) may
     c.mark.ensures c.in_ok-fed.ensures.learnt c.in_ok-fed.ensures.fed in
     c.go_on.ensures.licensed who _ it.0 it.1
+
+pub returns-then-late-clause-fewer : goal.returns-then-late-clause-fewer
+returns-then-late-clause-fewer c =
+    late_fewer c.args.ops.now (open_left c.args.ops.now c.args.self.now) c.args.answer.now c.take_in.new.self c.set_work.new.self c.in_ok-fed.fed c.set_work.ensures
+    (took_in_fewer c.args.ops.now c.args.answer c.args.self.now c.mark.new.self c.take_in.new.self c.in_ok-fed.fed c.requires.asked c.mark.ensures
+    c.in_ok-fed.ensures.learnt c.in_ok-fed.ensures.fed)
+
+pub returns-clause-fewer : goal.returns-clause-fewer
+returns-clause-fewer c =
+    ok_of c.go_on.result _ _
+    (λ few. below _ _ _ few
+    (took_in_fewer c.args.ops.now c.args.answer c.args.self.now c.mark.new.self c.take_in.new.self c.in_ok-fed.fed c.requires.asked c.mark.ensures
+    c.in_ok-fed.ensures.learnt c.in_ok-fed.ensures.fed)) c.go_on.ensures.few

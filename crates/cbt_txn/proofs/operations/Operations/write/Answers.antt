@@ -12,6 +12,10 @@ use Rattle.cbt_stage.specs.Tasks.{task_of}
 use Rattle.cbt_txn.specs.Following.{Answers, Follows}
 use Rattle.cbt_txn.specs.Starts.{refusal}
 use Rattle.cbt_txn.proofs.Readings.{reads_put, reads_refused}
+use Rattle.cbt_stage.specs.Phases.{calls_left}
+use Rattle.cbt_txn.specs.Bounds.{rest_left}
+use Rattle.cbt_txn.proofs.BoundsOpen.{few_more, put_few, turned_few}
+use Rattle.cbt_txn.proofs.Outcomes.{ok_of}
 
 pub returns-then-not-agrees-clause-follows : goal.returns-then-not-agrees-clause-follows
 returns-then-not-agrees-clause-follows c t l0 told calls same falls it =
@@ -58,3 +62,12 @@ returns-clause-licensed c who l owns well read =
     turned who l c.args.self.now c.set_work.new.self (work.Put c.begin-put.result) c.set_work.ensures owns
     (put_begun who c.args.self.now.attempt l owns well c.args.doc c.write.inside.kind c.write.inside.content c.args.seen c.begin-put.result read.0 read.1 read.2
     c.begin-put.ensures.task c.begin-put.ensures.stands)
+
+pub returns-then-not-agrees-clause-few : goal.returns-then-not-agrees-clause-few
+returns-then-not-agrees-clause-few c =
+    ok_of c.close.result _ _ (λ few. few_more _ (rest_left c.args.ops.now c.args.self.now) 8 few) c.close.ensures.few
+
+pub returns-clause-few : goal.returns-clause-few
+returns-clause-few c =
+    turned_few c.args.ops.now c.args.self.now c.set_work.new.self (work.Put c.begin-put.result) 8 c.set_work.ensures
+    (put_few (calls_left c.begin-put.result) c.begin-put.ensures.left)

@@ -5,6 +5,7 @@ use Rattle.cbt_txn.proofs.ClosingLicences.{closed_licensed}
 use Rattle.cbt_txn.proofs.Following.{closed_follows}
 use Rattle.cbt_txn.proofs.Fresh.{is_new, is_under, owns_fresh, well_fresh}
 use Rattle.cbt_txn.proofs.tries.Try.begin.Goals as goal
+use Rattle.cbt_txn.proofs.BoundsClosing.{begun_few}
 
 pub returns-clause-follows : goal.returns-clause-follows
 returns-clause-follows c who t l0 plan id atrs past falls new =
@@ -25,3 +26,9 @@ returns-clause-licensed c who l new =
     closed_licensed who it l
     (c.in_ok-operations.ensures.licensed who l (owns_fresh a c.args.id c.args.atrs c.args.plan.now.hold is who l new)
     (well_fresh a c.args.id c.args.atrs c.args.plan.now.hold is l)) c.args.plan.now.keep c.in_ok-closing.closing c.in_ok-closing.ensures
+
+pub returns-clause-few : goal.returns-clause-few
+returns-clause-few c =
+    let a = c.begin-attempt.result in
+    begun_few c.args.plan.now.ops c.args.plan.now.keep c.in_ok-operations.operations a c.in_ok-closing.closing (ap (λ k. k.writes) c.begin-attempt.ensures)
+    c.in_ok-operations.ensures.few c.in_ok-closing.ensures

@@ -1,14 +1,17 @@
-use Rattle.std.proofs.Common.{◌++◌, sym, ap, ◌∙◌, subst}
+use Rattle.std.proofs.Common.{◌<◌, ◌++◌, IsSome, sym, ap, ◌∙◌, subst}
 use Rattle.cbt_txn.specs.Deciding.{Closed, Finished, finish_after}
 use Rattle.cbt_txn.specs.Following.{Follows}
 use Rattle.cbt_txn.specs.Licensing.{MayGoOn}
 use Rattle.cbt_txn.specs.Tries.{step_in}
 use Rattle.cbt_txn.specs.Works.{step_of}
 use Rattle.cbt_txn.specs.declared.operations.Operations.{Operations}
+use Rattle.cbt_txn.specs.declared.tries.Try.{Try}
 use Rattle.cbt_txn.proofs.ClosingLicences.{closed_licensed}
 use Rattle.cbt_txn.proofs.Learning.{open_learns, open_halts, open_operations, open_operations_may, finish_learns, finish_halts, finish_licensed, undo_learns, undo_licensed}
-use Rattle.cbt_txn.proofs.Outcomes.{ok_of, ok_of_three, err_of, err_of_two}
+use Rattle.cbt_txn.proofs.Outcomes.{ok_of, ok_of_two, ok_of_three, err_of, err_of_two}
 use Rattle.cbt_txn.proofs.tries.Try.learn.Goals as goal
+use Rattle.cbt_txn.specs.Bounds.{left_in, open_left}
+use Rattle.cbt_txn.proofs.BoundsClosing.{open_fewer, finish_turned, undo_turned}
 
 -- ---- operations
 
@@ -122,3 +125,40 @@ returns-in-Undo-clause-licensed c who l s asked may =
     let is = sym (c.in-Undo.ensures.value ∙ ap (λ k. k.closing) marked) in
     let asks = sym (ap (λ k. step_in it.operations k) is) ∙ asked in
     undo_licensed who it _ l s c.args.answer c.in-Undo.undo is asks (c.requires.fits s asked) (ap (λ k. k.operations) marked) may c.learn_undo.ensures
+
+-- ---- each leaves fewer calls
+
+pub returns-in-Open-clause-fewer : goal.returns-in-Open-clause-fewer
+returns-in-Open-clause-fewer c =
+    let ops = c.args.plan.now.ops in
+    let it = c.args.self.now in
+    let new = c.learn_open.new.self in
+    let marked = c.mark.ensures in
+    let ops_is = ap (λ k. k.operations) marked in
+    let is = sym (c.in-Open.ensures.value ∙ ap (λ k. k.closing) marked) in
+    let asked = subst (λ k. IsSome (step_in it.operations k)) is c.requires.asked in
+    ok_of_two _ _ _ _
+    (λ less closed. subst (λ k. left_in ops new.operations new.closing < left_in ops it.operations k) (sym is)
+    (open_fewer ops c.args.plan.now.keep it.operations new.operations new.closing asked
+    (subst (λ o. open_left ops new.operations < open_left ops o) ops_is less) closed))
+    c.learn_open.ensures.fewer c.learn_open.ensures.closed
+
+pub returns-in-Finish-clause-fewer : goal.returns-in-Finish-clause-fewer
+returns-in-Finish-clause-fewer c =
+    let it = c.args.self.now in
+    let new = c.learn_finish.new.self in
+    let marked = c.mark.ensures in
+    let rest = c.learn_finish.ensures.rest in
+    let is = sym (c.in-Finish.ensures.value ∙ ap (λ k. k.closing) marked) in
+    let same = ap (λ k. k.operations) rest ∙ ap (λ k. k.operations) marked in
+    ok_of _ _ _ (λ finished. finish_turned c.args.plan.now.ops it new c.in-Finish.finish c.args.answer is same c.requires.asked c.requires.fits
+    (subst (λ (o : Operations). Finished o.attempt (finish_after c.in-Finish.finish c.args.answer.place c.args.answer.reply) new.closing)
+    (sym (ap (λ k. k.operations) rest)) finished)) c.learn_finish.ensures.finished
+
+pub returns-in-Undo-clause-fewer : goal.returns-in-Undo-clause-fewer
+returns-in-Undo-clause-fewer c =
+    let it = c.args.self.now in
+    let marked = c.mark.ensures in
+    let is = sym (c.in-Undo.ensures.value ∙ ap (λ k. k.closing) marked) in
+    let new : Try = record c.mark.new.self { closing = c.learn_undo.result } in
+    undo_turned c.args.plan.now.ops it new c.in-Undo.undo c.args.answer is (ap (λ k. k.operations) marked) c.requires.asked c.requires.fits c.learn_undo.ensures
