@@ -37,9 +37,11 @@ pub data Finishes (r a : ℕ) (calls : List Made) : Type 0 where
   dropped : Once (λ m _. (guarded : Bool) × (m.step ≡ step.DropEntry r a guarded) × IsDropped m.answer.reply) calls → Finishes r a calls
   -- its entry was not there
   missing : Once (λ m _. FindsNoEntry r a m) calls → Finishes r a calls
-  -- it was decided when it was to be dropped, and pending when it was read then, which never comes
-  pending : Once (λ m before. ((e : Entry) × ReadsEntry r a e m × (e.state ≡ Pending))
-      × Once (λ n _. (n.step ≡ step.DropEntry r a true) × (n.answer.reply ≡ reply.Decided)) before) calls → Finishes r a calls
+  -- it was decided when it was to be dropped, and pending when it was read then, which never comes; and a drop of it was sent
+  -- once more
+  pending : Once (λ l between. (l.step ≡ step.DropEntry r a true)
+      × Once (λ m before. ((e : Entry) × ReadsEntry r a e m × (e.state ≡ Pending))
+      × Once (λ n _. (n.step ≡ step.DropEntry r a true) × (n.answer.reply ≡ reply.Decided)) before) between) calls → Finishes r a calls
 
 -- the attempts that a pass covers by this answer to its reading of the record
 abbrev pub covered_by : Reply → ℕ → List ℕ

@@ -1,3 +1,8 @@
+//! What cleaners keep of their rounds and passes.
+
+ghost use Rattle.std.specs.Prelude.{◌≡◌};
+ghost use Rattle.cbt_book.specs.Shares.{has_record};
+
 use crate::operations::Span;
 use cbt_base::{Duplicate, Id, List, NoMemory};
 use std::alloc::Global;
@@ -23,6 +28,15 @@ pub struct PassLog {
 pub struct Share {
     pub index: u64,
     pub of: u64,
+}
+
+impl Share {
+    /// Whether this transaction record falls to the cleaner. None does where `of` is 0. It takes no memory.
+    pub fn has(&self, n: u16) -> bool
+        ensures { result ≡ has_record self.now n }
+    {
+        self.of != 0 && u64::from(n) % self.of == self.index
+    }
 }
 
 /// A cleaner's round over its share.
