@@ -27,6 +27,9 @@ pub trait Actor {
     /// Both were made with the same: the same kind of actor, with the same arguments.
     ghost same_origin: { Self → Self → Type 0 };
 
+    /// Where the first is stopped, it is the second.
+    ghost stopped_as: { Self → Self → Type 0 };
+
     /// The step to make now; none where it has ended or is stopped.
     fn next(&self, alloc: Global) -> Result<Option<Step>, NoMemory>
         ensures step { IfOk result (λ step. step ≡ step_now self.now) }
@@ -58,6 +61,7 @@ pub trait Actor {
     fn stop(&mut self)
         ensures stands { (l : List Made) → stands_for self.old l → stands_for self.new l }
         ensures stopped { is_stopped self.new ≡ true }
+        ensures as_it_was { stopped_as self.old self.new }
         ensures none_left { calls_left self.new ≡ 0 }
         ensures origin { same_origin self.old self.new };
 

@@ -9,6 +9,7 @@ mod events;
 mod fitting;
 mod laws;
 mod nodes;
+mod outcomes;
 mod states;
 mod steps;
 mod table;
@@ -23,6 +24,7 @@ pub use laws::{
     done_steps_have_their_stamp, fates_of_calls, refused_steps_change_nothing, steps_change_one_key,
 };
 pub use nodes::Node;
+pub use outcomes::{Happened, perform};
 pub use states::State;
 pub use steps::{Expect, Reply, Step};
 pub use table::apply;

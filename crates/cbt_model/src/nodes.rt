@@ -1,5 +1,5 @@
 //! The trait of a node.
-ghost use Rattle.std.specs.Prelude.{◌≡◌, ℕ, ◌+◌, ◌^◌, ◌<◌, None, Some, List, [], ◌∷◌, ◌++◌, length, IsTrue, IfOk, OnOk, OnErr};
+ghost use Rattle.std.specs.Prelude.{◌≡◌, ℕ, ◌+◌, ◌^◌, ◌<◌, ◌≤◌, None, Some, List, [], ◌∷◌, ◌++◌, length, IsTrue, IfOk, OnOk, OnErr};
 ghost use Rattle.cbt_model.specs.Faults.{fate_of};
 ghost use Rattle.cbt_model.specs.Fitting.{fits, step_fits};
 ghost use Rattle.cbt_model.specs.History.{reply_at, now_at};
@@ -73,6 +73,9 @@ pub trait Node {
 
     /// Its history keeps its terms.
     ghost keeps_terms: { (n : Self) → KeepsTerms (terms n) (history n) (marks n) };
+
+    /// The places of its calls fit their type.
+    ghost stays_short: { (n : Self) → length (history n) ≤ 2 ^ 62 };
 
     /// Without a clock line, its readings are those of its clock, where the clock tells them.
     ghost reads_right: { (n : Self) (f : ℕ → ℕ) → reads_by n f → (terms n).line ≡ None

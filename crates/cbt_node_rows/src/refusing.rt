@@ -49,5 +49,7 @@ impl<N: Node> Node for Refusing<N> {
 
     ghost keeps_terms = { λ n. N.keeps_terms n.node };
 
+    ghost stays_short = { λ n. N.stays_short n.node };
+
     ghost reads_right = { λ n. N.reads_right n.node };
 }

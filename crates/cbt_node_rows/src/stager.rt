@@ -45,6 +45,8 @@ impl Actor for Stager {
 
     ghost same_origin = { λ a b. (a.doc ≡ b.doc) × (a.stage ≡ b.stage) };
 
+    ghost stopped_as = { λ a b. b ≡ record a { stopped = true } };
+
     fn next(&self, alloc: Global) -> Result<Option<Step>, NoMemory> {
         if self.stopped {
             return Ok(None);

@@ -47,6 +47,8 @@ impl Actor for Reader {
 
     ghost same_origin = { λ a b. (a.atr ≡ b.atr) × (a.reads ≡ b.reads) };
 
+    ghost stopped_as = { λ a b. b ≡ record a { stopped = true } };
+
     fn next(&self, _alloc: Global) -> Result<Option<Step>, NoMemory> {
         if self.stopped || self.made == self.reads {
             return Ok(None);
@@ -100,6 +102,8 @@ impl Actor for Watcher {
     ghost calls_left = { λ a. if a.stopped then 0 else a.left };
 
     ghost same_origin = { λ a b. a.looks ≡ b.looks };
+
+    ghost stopped_as = { λ a b. b ≡ record a { stopped = true } };
 
     fn next(&self, _alloc: Global) -> Result<Option<Step>, NoMemory> {
         if self.stopped || self.left == 0 {
@@ -174,6 +178,11 @@ impl Actor for Worker {
     ghost same_origin = { λ v w. elim v [
       | Reads a ↦ elim w [ Reads b ↦ ⟦<Reader as Actor>⟧.same_origin a b | Watches b ↦ ⊥ ]
       | Watches a ↦ elim w [ Reads b ↦ ⊥ | Watches b ↦ ⟦<Watcher as Actor>⟧.same_origin a b ]
+    ] };
+
+    ghost stopped_as = { λ v w. elim v [
+      | Reads a ↦ elim w [ Reads b ↦ ⟦<Reader as Actor>⟧.stopped_as a b | Watches b ↦ ⊥ ]
+      | Watches a ↦ elim w [ Reads b ↦ ⊥ | Watches b ↦ ⟦<Watcher as Actor>⟧.stopped_as a b ]
     ] };
 
     fn next(&self, alloc: Global) -> Result<Option<Step>, NoMemory> {

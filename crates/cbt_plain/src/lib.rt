@@ -2,7 +2,6 @@
 #![tactic(auto)]
 
 mod counts;
-mod outcomes;
 mod plain;
 mod readings;
 

@@ -8,10 +8,9 @@ ghost use Rattle.cbt_model.specs.History.{after};
 ghost use Rattle.cbt_model.specs.Legal.{KeepsTerms, ahead_at, calls_below};
 
 use crate::counts::{next_number, set_number};
-use crate::outcomes::perform;
 use crate::readings::next_reading;
 use cbt_base::{Clock, Duplicate, List, Map, NoMemory, ms};
-use cbt_model::{Answer, Event, Fate, Faults, Kept, Mark, Node, Reply, State, Step};
+use cbt_model::{Answer, Event, Fate, Faults, Kept, Mark, Node, Reply, State, Step, perform};
 use std::alloc::Global;
 
 /// The most events that a history has.
@@ -124,13 +123,13 @@ impl<C: Clock> Node for Plain<C> {
             None => unreachable!(),
         };
         match outcome {
-            Ok(reply) => {
+            Ok(happened) => {
                 self.taken = None;
                 set_number(&mut self.calls, actor, number);
                 Ok(Answer {
                     place: place as u64,
                     now: ms(self.state.last),
-                    reply,
+                    reply: happened.reply,
                 })
             }
             Err(refused) => {
@@ -169,6 +168,8 @@ impl<C: Clock> Node for Plain<C> {
     }
 
     ghost keeps_terms = { λ n. n.kept };
+
+    ghost stays_short = { λ n. n.short };
 
     ghost reads_right = { λ n f by none. (by none).so_far };
 }

@@ -58,7 +58,7 @@ returns-in-Ok-clause-reply g c =
     let grown = c.in_ok-push.ensures.ok in
     let same : c.in-Some.event.now ≡ e = last-is s.history c.push.new.self e c.in-Some.event.now c.len-place.result grown c.len-place.ensures (sym c.in-Some.ensures.value) in
     ap (λ i. reply_at s.opening c.push.new.self i) c.len-place.ensures
-    ∙ reply-next s.opening s.state s.history c.push.new.self e c.in-Ok.reply grown s.stands (c.in-Ok.ensures.reply ∙ ap (λ x. (outcome s.state x).reply) same)
+    ∙ reply-next s.opening s.state s.history c.push.new.self e c.in-Ok.happened.reply grown s.stands (c.in-Ok.ensures.reply ∙ ap (λ x. (outcome s.state x).reply) same)
 
 pub returns-in-Ok-clause-now : goal.returns-in-Ok-clause-now
 returns-in-Ok-clause-now g c =
@@ -75,7 +75,7 @@ returns-in-Ok-clause-fits g c =
     let s = c.args.self.now in
     let e : Event = record { actor = c.args.actor; step = c.args.step; fate = c.unwrap_or-fate.result; reading = c.saturating_add.result } in
     let same : c.in-Some.event.now ≡ e = last-is s.history c.push.new.self e c.in-Some.event.now c.len-place.result c.in_ok-push.ensures.ok c.len-place.ensures (sym c.in-Some.ensures.value) in
-    ap (λ (y : Event). fits y.step c.in-Ok.reply) (sym same) ∙ c.in-Ok.ensures.fits s.fit
+    ap (λ (y : Event). fits y.step c.in-Ok.happened.reply) (sym same) ∙ c.in-Ok.ensures.fits s.fit
 
 pub returns-in-Ok-clause-readings : goal.returns-in-Ok-clause-readings
 returns-in-Ok-clause-readings g c f before none =
