@@ -145,7 +145,7 @@ module _ {N A : Type 0} (nodes : NodeOf N) (kind : ActorOf A) where
     stands = subst (λ l. kind.stands_for now l) (sym same) before.stands;
     origin = before.origin;
     within = λ most is. subst (λ l. length l ≤ most) (sym same) (before.within most is);
-    cause = λ fine running stopped. subst (λ l. StopReached kind.stands_for kind.step_now kind.same_origin stop begun l) (sym same)
+    cause = λ fine running stopped. subst (λ l. StopReached kind.stands_for kind.step_now kind.same_origin kind.stopped_as stop begun now l) (sym same)
         (before.cause (sticky fine) running stopped);
   }
 

@@ -135,7 +135,7 @@ among-append _ _ none some' all' more = more
 among-append _ _ (taken m some all rest) some' all' more = taken m (some ++ some') (all ++ all') (among-append some all rest some' all' more)
 among-append _ _ (missed m some all rest) some' all' more = missed m (some ++ some') (all ++ all') (among-append some all rest some' all' more)
 
-adds-further : (refused refused' : Bool) (due due' old mid new : List Mark) → (refused' ≡ false → refused ≡ false)
+pub adds-further : (refused refused' : Bool) (due due' old mid new : List Mark) → (refused' ≡ false → refused ≡ false)
     → AddsMarks refused due old mid → AddsMarks refused' due' mid new → AddsMarks refused' (due ++ due') old new
 adds-further refused refused' due due' old mid new sticky first then = record {
   added = first.added ++ then.added;

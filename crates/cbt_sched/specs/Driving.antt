@@ -39,7 +39,7 @@ pub record Stands {N A : Type 0} (nodes : NodeOf N) (kind : ActorOf A) (number :
   pub origin : kind.same_origin begun now
   pub within : (most : ℕ) → stop ≡ Some most → length (own_at nodes number node) ≤ most
   pub cause : refused ≡ false → kind.is_stopped begun ≡ false → kind.is_stopped now ≡ true
-      → StopReached kind.stands_for kind.step_now kind.same_origin stop begun (own_at nodes number node)
+      → StopReached kind.stands_for kind.step_now kind.same_origin kind.stopped_as stop begun now (own_at nodes number node)
 
 -- the same of each actor of a list, whose numbers begin with first
 pub record AllStand {N A : Type 0} (nodes : NodeOf N) (kind : ActorOf A) (first : ℕ) (stops : List (ℕ × ℕ))

@@ -51,7 +51,7 @@ pub fn drive_in_order<N: Node, A: Actor>(
         → calls_of (callers (N.history node.new)) (first + k) ≤ most }
     ensures stopped { (k : ℕ) (begun a : A) → slice_get actors.old k ≡ Some begun → slice_get actors.new k ≡ Some a
         → result ≡ false → A.is_stopped begun ≡ false → A.is_stopped a ≡ true
-        → StopReached A.stands_for A.step_now A.same_origin (stop_of stops.now (first + k)) begun
+        → StopReached A.stands_for A.step_now A.same_origin A.stopped_as (stop_of stops.now (first + k)) begun a
         (own (N.opening node.new) (N.history node.new) (first + k) (length (N.history node.new))) }
 
     // The history goes on with calls of these actors alone, in the order of turns for the numbers of
