@@ -1,12 +1,12 @@
 -- A pass that was shown an expired entry, and has made no call since.
-use Rattle.std.proofs.Common.{◌≡◌, ℕ, inl, inr, List, [], ◌∷◌, refl, sym, ap, ◌∙◌, subst}
+use Rattle.std.proofs.Common.{◌≡◌, ℕ, true, inl, inr, List, [], ◌∷◌, refl, sym, ap, ◌∙◌, subst}
 use Rattle.cbt_model.specs.declared.entries.Entry.{Entry}
 use Rattle.cbt_model.specs.declared.steps.Reply.TheVariants as reply
 use Rattle.cbt_book.specs.OwnLists.{In}
 use Rattle.cbt_book.specs.Passes.{PassKept, Finishes, dropped, missing, pending, expired_in}
 use Rattle.cbt_rows.specs.CleanerFreesPendingStage as freed
 use Rattle.cbt_rows.specs.Changes.{first_attempt}
-use Rattle.cbt_rows.proofs.Never.{no_drop_sent, no_entry_missed, no_entry_read}
+use Rattle.cbt_rows.proofs.Never.{no_drop_sent, no_entry_missed}
 
 entries-same : {xs ys : List (ℕ × Entry)} → reply.Entries xs ≡ reply.Entries ys → xs ≡ ys
 entries-same e = cc
@@ -17,7 +17,7 @@ not_finished (dropped (inl (guarded, h, done))) = no_drop_sent freed.m5 0 first_
 not_finished (dropped (inr h)) = h
 not_finished (missing (inl h)) = no_entry_missed freed.m5 0 first_attempt refl h
 not_finished (missing (inr h)) = h
-not_finished (pending (inl ((e, h, is), rest))) = no_entry_read freed.m5 0 first_attempt e refl h
+not_finished (pending (inl (h, rest))) = no_drop_sent freed.m5 0 first_attempt true refl h
 not_finished (pending (inr h)) = h
 
 -- which is what it would keep

@@ -6,17 +6,14 @@ ghost use Rattle.cbt_core.specs.Right.{AnswersRight};
 ghost use Rattle.cbt_core.specs.Stops.{IsComplete};
 ghost use Rattle.cbt_rows.specs.CleanerFreesPendingStage;
 
-use cbt_book::Book;
 use cbt_core::{
-    Case, completeness, fresh_openings, invariant, k1, k2, k3, k4, k5, k6, tables_count_commits,
+    completeness, fresh_openings, invariant, k1, k2, k3, k4, k5, k6, tables_count_commits,
 };
 
 /// A cleaner drops the entry of a client that was stopped: each law holds of this run. From the end of
 /// the cleaner's pass on nothing is left of the attempt. The other client, which has no stop, ended its
 /// transaction.
-pub fn laws_where_cleaner_frees_pending_stage(case: &Case, book: &Book)
-    requires this_case { case.now ≡ CleanerFreesPendingStage.run_case }
-    requires this_book { book.now ≡ CleanerFreesPendingStage.book }
+pub fn laws_where_cleaner_frees_pending_stage()
     ensures once { CommitsOnce CleanerFreesPendingStage.opening CleanerFreesPendingStage.history }
     ensures documents { DocumentsCommitted CleanerFreesPendingStage.run_case CleanerFreesPendingStage.book }
     ensures answers { AnswersRight CleanerFreesPendingStage.run_case CleanerFreesPendingStage.book }
@@ -28,12 +25,12 @@ pub fn laws_where_cleaner_frees_pending_stage(case: &Case, book: &Book)
 {
     fresh_openings();
     tables_count_commits();
-    invariant(case, book);
-    k1(case, book);
-    k2(case, book);
-    k3(case, book);
-    k4(case, book);
-    k5(case, book);
-    k6(case, book);
-    completeness(case, book);
+    invariant();
+    k1();
+    k2();
+    k3();
+    k4();
+    k5();
+    k6();
+    completeness();
 }

@@ -91,6 +91,11 @@ pass_in_round plan l course at round pass follow there =
     ⊎_elim (λ (shares : Shared plan l course round). pass_of l (suc shares.beat.answer.place) round.passes pass shares.passes.follow there)
     (λ (early : Unshared plan l course round). absurd (in_no_passes pass round.passes early.passes there)) follow.goes
 
+-- the entry of attempt a was decided when it was to be dropped, and pending when it was read then
+abbrev ReadPending : ℕ → ℕ → List Made → Type 0
+ReadPending r a before = Once (λ m earlier. ((e : Entry) × ReadsEntry r a e m × (e.state ≡ Pending))
+    × Once (λ n _. (n.step ≡ step.DropEntry r a true) × (n.answer.reply ≡ reply.Decided)) earlier) before
+
 module _ (s0 : State) (h : List Event) (lawful : Lawful s0 h) where
   -- an attempt that has no entry any more is finished
   pub finished_when : (i a : ℕ) → ((k : ℕ) → i ≤ k → (q : ℕ) → entry_then s0 h lawful k (q, a) ≡ None) → IsFinishedAt s0 h a i
@@ -211,24 +216,30 @@ module _ (s0 : State) (h : List Event) (lawful : Lawful s0 h) where
             finished_from was.place it.place i pass.atr a was.entry (omega arith) (omega arith) was.there
             (no_entry_told s0 h it.place it.event pass.atr a (ap (λ (x : Made). x.step) (sym it.made) ∙ f.holds.0) (ap (λ (x : Made). x.answer.reply) (sym it.made) ∙ f.holds.1))
     gone_by a i was (passes.pending once) after_end =
-        absurd (go (found_at (λ m before. ((e : Entry) × ReadsEntry pass.atr a e m × (e.state ≡ Pending))
-        × Once (λ n _. (n.step ≡ step.DropEntry pass.atr a true) × (n.answer.reply ≡ reply.Decided)) before) calls falls once))
+        absurd (sent (found_at (λ l between. (l.step ≡ step.DropEntry pass.atr a true) × ReadPending pass.atr a between) calls falls once))
       where
-        go : Found (λ m before. ((e : Entry) × ReadsEntry pass.atr a e m × (e.state ≡ Pending))
-            × Once (λ n _. (n.step ≡ step.DropEntry pass.atr a true) × (n.answer.reply ≡ reply.Decided)) before) calls → ⊥
-        go f = last (found_at (λ n _. (n.step ≡ step.DropEntry pass.atr a true) × (n.answer.reply ≡ reply.Decided)) f.past f.falls f.holds.1)
+        go : (between : List Made) → ((x : Made) → In x between → In x calls)
+            → Found (λ m before. ((e : Entry) × ReadsEntry pass.atr a e m × (e.state ≡ Pending))
+            × Once (λ n _. (n.step ≡ step.DropEntry pass.atr a true) × (n.answer.reply ≡ reply.Decided)) before) between → ⊥
+        go between among f = last (found_at (λ n _. (n.step ≡ step.DropEntry pass.atr a true) × (n.answer.reply ≡ reply.Decided)) f.past f.falls f.holds.1)
           where
             last : Found (λ n _. (n.step ≡ step.DropEntry pass.atr a true) × (n.answer.reply ≡ reply.Decided)) f.past → ⊥
             last g =
-                let read = member f.call f.there in
+                let read = member f.call (among f.call f.there) in
                 let older = f.older g.call g.there in
-                let drop = member g.call older.0 in
+                let drop = member g.call (among g.call older.0) in
                 let p = place_of f.call read in
                 let q = place_of g.call drop in
                 let low = older.1 in
                 let x = drop_decided_told s0 h drop.place drop.event pass.atr a (ap (λ (y : Made). y.step) (sym drop.made) ∙ g.holds.0) (ap (λ (y : Made). y.answer.reply) (sym drop.made) ∙ g.holds.1) in
                 let now = entry_told s0 h read.place read.event pass.atr a f.holds.0.0 (ap (λ (y : Made). y.step) (sym read.made) ∙ f.holds.0.1.0) (ap (λ (y : Made). y.answer.reply) (sym read.made) ∙ f.holds.0.1.1) in
                 x.2 (sym (stays_decided s0 h lawful drop.place read.place (pass.atr, a) x.0 f.holds.0.0 (omega arith) x.1 x.2 now).0 ∙ f.holds.0.2)
+
+        sent : Found (λ l between. (l.step ≡ step.DropEntry pass.atr a true) × ReadPending pass.atr a between) calls → ⊥
+        sent k =
+            go k.past (λ x there. (k.older x there).0)
+            (found_at (λ m before. ((e : Entry) × ReadsEntry pass.atr a e m × (e.state ≡ Pending))
+            × Once (λ n _. (n.step ≡ step.DropEntry pass.atr a true) × (n.answer.reply ≡ reply.Decided)) before) k.past k.falls k.holds.1)
 
     pub pass_leaves : (covered : List ℕ) (a i : ℕ) → pass.end ≡ pass_end.Ok covered → In a covered → pass.span.to ≤ i → IsFinishedAt s0 h a i
     pass_leaves covered a i ok listed after_end =

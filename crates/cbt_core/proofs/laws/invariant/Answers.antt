@@ -3,22 +3,22 @@ use Rattle.cbt_core.proofs.interleaving.Interleaving.{interleaves}
 use Rattle.cbt_core.proofs.laws.invariant.Goals as goal
 
 pub returns-clause-stamps : goal.returns-clause-stamps
-returns-clause-stamps c = (interleaves _ _ (lawful_run c.args.case.now c.args.book.now c.requires.lawful)).stamps
+returns-clause-stamps c case book lawful = (interleaves _ _ (lawful_run case book lawful)).stamps
 
 pub returns-clause-added : goal.returns-clause-added
-returns-clause-added c = (interleaves _ _ (lawful_run c.args.case.now c.args.book.now c.requires.lawful)).added
+returns-clause-added c case book lawful = (interleaves _ _ (lawful_run case book lawful)).added
 
 pub returns-clause-decided : goal.returns-clause-decided
-returns-clause-decided c = (interleaves _ _ (lawful_run c.args.case.now c.args.book.now c.requires.lawful)).decided
+returns-clause-decided c case book lawful = (interleaves _ _ (lawful_run case book lawful)).decided
 
 pub returns-clause-held : goal.returns-clause-held
-returns-clause-held c = (interleaves _ _ (lawful_run c.args.case.now c.args.book.now c.requires.lawful)).held
+returns-clause-held c case book lawful = (interleaves _ _ (lawful_run case book lawful)).held
 
 pub returns-clause-listed : goal.returns-clause-listed
-returns-clause-listed c = (interleaves _ _ (lawful_run c.args.case.now c.args.book.now c.requires.lawful)).listed_when
+returns-clause-listed c case book lawful = (interleaves _ _ (lawful_run case book lawful)).listed_when
 
 pub returns-clause-gone : goal.returns-clause-gone
-returns-clause-gone c = (interleaves _ _ (lawful_run c.args.case.now c.args.book.now c.requires.lawful)).gone
+returns-clause-gone c case book lawful = (interleaves _ _ (lawful_run case book lawful)).gone
 
 pub returns-clause-shown : goal.returns-clause-shown
-returns-clause-shown c = (interleaves _ _ (lawful_run c.args.case.now c.args.book.now c.requires.lawful)).shown
+returns-clause-shown c case book lawful = (interleaves _ _ (lawful_run case book lawful)).shown

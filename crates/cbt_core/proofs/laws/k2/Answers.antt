@@ -5,10 +5,10 @@ use Rattle.cbt_core.proofs.laws.k2.Goals as goal
 
 pub returns : goal.returns
 returns c = record {
-  documents = λ i d low.
-      documents c.args.case.now c.args.book.now c.requires.lawful.legal c.requires.follow
-      (lawful_run c.args.case.now c.args.book.now c.requires.lawful) i d;
-  own_writes =
-      commits_own_writes c.args.case.now c.args.book.now c.requires.lawful.legal c.requires.follow
-      (lawful_run c.args.case.now c.args.book.now c.requires.lawful);
+  documents = λ case book lawful follow i d low.
+      documents case book lawful.legal follow
+      (lawful_run case book lawful) i d;
+  own_writes = λ case book lawful follow.
+      commits_own_writes case book lawful.legal follow
+      (lawful_run case book lawful);
 }
