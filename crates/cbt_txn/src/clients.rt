@@ -219,6 +219,8 @@ impl Actor for Client {
 
     ghost same_origin = { λ a b. a.origin ≡ b.origin };
 
+    ghost stopped_as = { λ a b. b ≡ record a { stopped = true } };
+
     fn next(&self, alloc: Global) -> Result<Option<Step>, NoMemory> {
         if self.stopped {
             return Ok(None);

@@ -1,19 +1,24 @@
 //! What the calls of a client come to. Each function does nothing: what it ensures is the law. They take
 //! no memory.
 
-ghost use Rattle.std.specs.Prelude.{◌≡◌, ◌≢◌, ℕ, List, ◌++◌, None, Some};
+ghost use Rattle.std.specs.Prelude.{◌≡◌, ◌≢◌, ◌↔◌, ℕ, false, true, List, ◌++◌, length, None, Some};
 ghost use Rattle.cbt_model.specs.declared.events.Made.{Made};
 ghost use Rattle.cbt_model.specs.declared.steps.Step.{Step};
 ghost use Rattle.cbt_book.specs.Licence.{MayTake};
 ghost use Rattle.cbt_book.specs.Numbers.{Identity};
 ghost use Rattle.cbt_book.specs.OwnLists.{Descends};
+ghost use Rattle.cbt_core.specs.Clients.{FollowsPlan};
+ghost use Rattle.cbt_core.specs.Stops.{WasStopped};
 ghost use Rattle.cbt_core.specs.Walk.{AttemptTerms};
 ghost use Rattle.cbt_expr.specs.declared.plans.Op.{Op};
 ghost use Rattle.cbt_txn.specs.Bounds.{try_left};
+ghost use Rattle.cbt_txn.specs.Clients.{StandsFor, client_log_of, has_ended};
+ghost use Rattle.cbt_txn.specs.Clients as clients;
 ghost use Rattle.cbt_txn.specs.Closings.{IsOf, NamesOnly, TryFollows, TryHalts, TryMayGoOn};
 ghost use Rattle.cbt_txn.specs.Licensing.{MayGoOn};
 ghost use Rattle.cbt_txn.specs.Tries.{outcome, step_now};
 ghost use Rattle.cbt_txn.specs.Works.{step_of};
+ghost use Rattle.cbt_txn.specs.declared.clients.Client.{Client};
 ghost use Rattle.cbt_txn.specs.declared.operations.Operations.{Operations};
 ghost use Rattle.cbt_txn.specs.declared.tries.Try.{Try};
 
@@ -50,4 +55,17 @@ pub fn tries_go_on()
 /// A try that has no calls left asks for none. With each answer fewer are left.
 pub fn tries_stay_bounded()
     ensures at_end { (ops : List Op) (it : Try) → try_left ops it ≡ 0 → step_now it ≡ None }
+{}
+
+/// The log of a client is what `Client::into_log` says of it, at any moment and without a call of that.
+pub fn clients_tell()
+    ensures follows { (c : Client) (l : List Made) → StandsFor c l → Descends l
+        → FollowsPlan c.origin.actor c.origin.atrs c.origin.plan l (client_log_of c) }
+    ensures calls { (c : Client) (l : List Made) → StandsFor c l → (client_log_of c).calls ≡ length l }
+    // It says that it was stopped exactly where some transaction has not ended.
+    ensures stopped { (c : Client) (l : List Made) → StandsFor c l → Descends l
+        → WasStopped (client_log_of c).txns ↔ (has_ended c ≡ false) }
+    // That is so only of a client that was stopped, or that asks for a call.
+    ensures asks { (c : Client) (l : List Made) → StandsFor c l → Descends l → has_ended c ≡ false
+        → clients.step_now c ≡ None → c.stopped ≡ true }
 {}

@@ -15,7 +15,7 @@ mod tries;
 pub use clients::Client;
 pub use keeping::{Terms, Trying};
 pub use laws::{
-    operations_are_licensed, steps_name_attempt, tries_are_licensed, tries_go_on,
+    clients_tell, operations_are_licensed, steps_name_attempt, tries_are_licensed, tries_go_on,
     tries_stay_bounded, tries_stop,
 };
 pub use operations::{Operations, Work};
