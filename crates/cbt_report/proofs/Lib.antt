@@ -1,2 +1,3 @@
+pub mod HeldSums
 pub mod NextLines
 pub mod Replays

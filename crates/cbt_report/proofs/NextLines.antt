@@ -1,9 +1,11 @@
 -- Lists of lines, one line at a time.
-use Rattle.std.proofs.Common.{◌≡◌, ℕ, zero, suc, ◌+◌, ◌<◌, ◌≤◌, min, List, [], ◌∷◌, ◌++◌, length, get_or, drop, refl, sym, ap, ◌∙◌, arith}
-use Rattle.std.proofs.lemmas.List.{append-nil}
+use Rattle.std.proofs.Common.{◌≡◌, ℕ, zero, suc, ◌+◌, ◌<◌, ◌≤◌, min, List, [], ◌∷◌, ◌++◌, append_assoc, length, get_or, drop, codes, refl, sym, ap, ◌∙◌, arith}
+use Rattle.std.proofs.lemmas.List.{append-nil, drop_all}
+use Rattle.cbt_book.specs.declared.cleaners.CleanerLog.{CleanerLog}
 use Rattle.cbt_book.specs.declared.clients.ClientLog.{ClientLog}
 use Rattle.cbt_book.specs.declared.clients.TxnLog.{TxnLog}
 use Rattle.cbt_expr.specs.declared.plans.ClientPlan.{ClientPlan}
+use Rattle.cbt_report.specs.Cleaners.{cleaner_line, cleaner_lines, name_at}
 use Rattle.cbt_report.specs.Report.{txn_line, txn_lines, client_lines}
 
 -- the next of a client's transactions
@@ -39,6 +41,44 @@ client_lines-end zero (x ∷ cs) [] high = refl
 client_lines-end (suc k) (x ∷ cs) [] high = none-right (drop k cs)
 client_lines-end zero (x ∷ cs) (y ∷ ls) high = absurd (omega arith)
 client_lines-end (suc k) (x ∷ cs) (y ∷ ls) high = client_lines-end k cs ls (omega arith)
+
+-- the next cleaner
+pub cleaner_lines-next : (k : ℕ) (cs : List (List ℕ × ℕ)) (ls : List CleanerLog) (l : CleanerLog) → k < length ls → l ≡ get_or ls k l
+    → cleaner_lines (drop k cs) (drop k ls) ≡ cleaner_line (name_at cs k) l ++ cleaner_lines (drop (suc k) cs) (drop (suc k) ls)
+cleaner_lines-next k cs [] l low is = absurd (omega arith)
+cleaner_lines-next zero [] (y ∷ ls) l low is = ap (λ z. cleaner_line (codes "sweep") z ++ cleaner_lines [] ls) (sym is)
+cleaner_lines-next zero (x ∷ cs) (y ∷ ls) l low is = ap (λ z. cleaner_line x.0 z ++ cleaner_lines cs ls) (sym is)
+cleaner_lines-next (suc k) [] (y ∷ ls) l low is =
+    ap (λ cs. cleaner_lines cs (drop k ls)) (none-left-of k) ∙ cleaner_lines-next k [] ls l (omega arith) is
+  where
+    none-left-of : (k : ℕ) → ◌≡◌ {A = List (List ℕ × ℕ)} [] (drop k [])
+    none-left-of zero = refl
+    none-left-of (suc k) = refl
+cleaner_lines-next (suc k) (x ∷ cs) (y ∷ ls) l low is = cleaner_lines-next k cs ls l (omega arith) is
+
+-- the name of a cleaner of the script, and of the sweep
+pub name_at-there : (cs : List (List ℕ × ℕ)) (k : ℕ) (c : List ℕ × ℕ) → k < length cs → c ≡ get_or cs k c → c.0 ≡ name_at cs k
+name_at-there [] k c low is = absurd (omega arith)
+name_at-there (x ∷ cs) zero c low is = ap (λ y. y.0) is
+name_at-there (x ∷ cs) (suc k) c low is = name_at-there cs k c (omega arith) is
+
+pub name_at-behind : (cs : List (List ℕ × ℕ)) (k : ℕ) → length cs ≤ k → codes "sweep" ≡ name_at cs k
+name_at-behind [] k high = refl
+name_at-behind (x ∷ cs) zero high = absurd (omega arith)
+name_at-behind (x ∷ cs) (suc k) high = name_at-behind cs k (omega arith)
+
+-- past the last log there is none
+pub cleaner_lines-end : (k : ℕ) (cs : List (List ℕ × ℕ)) (ls : List CleanerLog) → length ls ≤ k → cleaner_lines (drop k cs) (drop k ls) ≡ []
+cleaner_lines-end k cs ls high = ap (λ x. cleaner_lines (drop k cs) x) (drop_all k ls high) ∙ no-logs (drop k cs)
+  where
+    no-logs : (cs : List (List ℕ × ℕ)) → cleaner_lines cs [] ≡ []
+    no-logs [] = refl
+    no-logs (x ∷ cs) = refl
+
+-- a line more
+pub one-more : (out out' line lines rest all : List ℕ) → out ++ lines ≡ all → lines ≡ line ++ rest → out' ≡ out ++ line → out' ++ rest ≡ all
+one-more out out' line lines rest all before next grown =
+    ap (λ x. x ++ rest) grown ∙ append_assoc out line rest ∙ ap (λ x. out ++ x) (sym next) ∙ before
 
 -- where nothing is left, what is written is the whole
 pub whole : (out left all : List ℕ) → out ++ left ≡ all → left ≡ [] → out ≡ all

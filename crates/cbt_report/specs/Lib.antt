@@ -1,3 +1,4 @@
+pub mod Cleaners
 pub mod Lines
 pub mod Outcomes
 pub mod Report

@@ -13,6 +13,7 @@ use Rattle.cbt_model.specs.View.{view}
 use Rattle.cbt_model.specs.declared.documents.DocState.{DocState}
 use Rattle.cbt_model.specs.declared.documents.Stage.{Stage}
 use Rattle.cbt_model.specs.declared.states.State.{State}
+use Rattle.cbt_report.specs.Cleaners.{cleaner_lines}
 use Rattle.cbt_report.specs.Lines.{number_line}
 use Rattle.cbt_report.specs.Outcomes.{outcome_text}
 use Rattle.cbt_script.specs.declared.script.Script.{Script}
@@ -65,10 +66,11 @@ state_lines s =
     ++ number_line (codes "dead") (dead_count s s.docs)
     ++ number_line (codes "entries") (length s.entries)
 
--- the report of a run without cleaners
+-- the report of a run
 abbrev pub report_text : Script → Book → List ℕ
 report_text script book =
     number_line (codes "history") (length book.kept.history)
     ++ number_line (codes "committed") (length (commits_below book.kept.opening book.kept.history (length book.kept.history)))
     ++ client_lines script.clients book.clients
+    ++ cleaner_lines script.cleaners book.cleaners
     ++ state_lines (after book.kept.opening book.kept.history (length book.kept.history))

@@ -1,6 +1,7 @@
-//! The texts of a run: the report on its history, its transactions and its documents.
+//! The texts of a run: the report on its history, its transactions, its cleaners and its documents.
 #![tactic(auto)]
 
+mod cleaners;
 mod lines;
 mod outcomes;
 mod replay;

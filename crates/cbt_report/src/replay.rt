@@ -1,11 +1,11 @@
 //! The end of a run, found again from what was kept of it.
 
 ghost use Rattle.std.specs.Prelude.{◌≡◌, ◌+◌, ◌-◌, ◌^◌, ◌<◌, ◌≤◌, max, length, is_some, Some, IfOk, OnOk};
-ghost use Rattle.cbt_base.specs.Clock.{clock_of, clock_read};
-ghost use Rattle.cbt_model.specs.History.{after, happens, commits_below, committed_by, is_done, commits};
+ghost use Rattle.cbt_base.specs.Clock.{clock_of};
+ghost use Rattle.cbt_model.specs.History.{after, happens, commits_below, committed_by, commits};
 
-use cbt_base::{Duplicate, Hlc, NoMemory};
-use cbt_model::{Event, Fate, Kept, Reply, State, Step, apply};
+use cbt_base::{Duplicate, NoMemory};
+use cbt_model::{Event, Kept, State, Step, perform};
 use std::alloc::Global;
 
 /// The state after a run, and how many commits took effect in it.
@@ -39,37 +39,12 @@ fn happen(alloc: Global, state: &mut State, event: &Event) -> Result<bool, NoMem
     ensures commit { IfOk result (λ commit. commit ≡ is_some (committed_by state.old (Some event.now))) }
     ensures clock { state.new.last ≤ max (state.old.last + 1) (2 ^ 63) }
 {
-    match event.fate {
-        Fate::Lost => {
-            state.last = clock_after_reading(state.last, event.reading);
-            Ok(false)
-        }
-        Fate::Plain | Fate::Late => {
-            let reply = apply(alloc, state, event.reading, &event.step)?;
-            Ok(is_done(&reply) && is_commit(&event.step))
-        }
-    }
-}
-
-fn is_done(reply: &Reply) -> bool
-    ensures { result ≡ is_done reply.now }
-{
-    matches!(reply, Reply::Done { .. })
+    let happened = perform(alloc, state, event)?;
+    Ok(happened.takes_effect && is_commit(&event.step))
 }
 
 fn is_commit(step: &Step) -> bool
     ensures { result ≡ is_some (commits step.now) }
 {
     matches!(step, Step::Commit { .. })
-}
-
-// The clock after a call that changes nothing.
-fn clock_after_reading(last: u64, reading: u64) -> u64
-    requires { last < 2 ^ 64 - 65537 }
-    ensures clock { result ≡ clock_read last reading }
-    ensures within { result ≤ max (last + 1) (2 ^ 63) }
-{
-    let mut clock = Hlc { last };
-    clock.read(reading);
-    clock.last
 }

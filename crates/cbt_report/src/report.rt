@@ -5,6 +5,7 @@ ghost use Rattle.cbt_base.specs.Clock.{clock_of};
 ghost use Rattle.cbt_model.specs.View.{view};
 ghost use Rattle.cbt_report.specs.Report.{txn_line, txn_lines, client_lines, doc_line, doc_lines, is_held, is_dead, staged_count, dead_count, state_lines, report_text};
 
+use crate::cleaners::push_cleaners;
 use crate::lines::push_number_line;
 use crate::outcomes::outcome;
 use crate::replay::end_of;
@@ -16,9 +17,9 @@ use cbt_model::{Stage, State, view};
 use cbt_script::Script;
 use std::alloc::Global;
 
-/// The report on a run without cleaners: how many events and commits it had, each transaction that
-/// was begun with its outcome, each document with what it resolves to at the end, and what is left
-/// staged. The cleaners of the script are not told of.
+/// The report on a run: how many events and commits it had, each transaction that was begun with its
+/// outcome, each cleaner with its rounds, each document with what it resolves to at the end, and what is
+/// left staged.
 ///
 /// It fails only where memory runs out.
 pub fn report_of(alloc: Global, script: &Script, book: &Book) -> Result<Text, NoMemory>
@@ -31,6 +32,11 @@ pub fn report_of(alloc: Global, script: &Script, book: &Book) -> Result<Text, No
     push_number_line(&mut out, "history", book.kept.history.len() as u64)?;
     push_number_line(&mut out, "committed", end.commits)?;
     push_clients(&mut out, script.clients.as_slice(), book.clients.as_slice())?;
+    push_cleaners(
+        &mut out,
+        script.cleaners.as_slice(),
+        book.cleaners.as_slice(),
+    )?;
     push_state(alloc, &mut out, &end.state)?;
     Ok(out)
 }
