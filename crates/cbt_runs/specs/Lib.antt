@@ -1,0 +1,4 @@
+pub mod Driven
+pub mod Stopped
+pub mod Ordered
+pub mod Promises
