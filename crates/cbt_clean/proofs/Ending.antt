@@ -1,5 +1,5 @@
 -- How a pass ends, by its own calls, and that no end is right before.
-use Rattle.std.proofs.Common.{◌≡◌, ◌≢◌, ℕ, Bool, true, false, inl, ⊎_elim, List, [], ◌∷◌, ◌++◌, map, filter, Some, None, refl, sym, ap, ◌∙◌, subst}
+use Rattle.std.proofs.Common.{◌≡◌, ◌≢◌, ℕ, Bool, true, false, inl, List, [], ◌∷◌, ◌++◌, filter, Some, None, refl, sym, ap, ◌∙◌, subst}
 use Rattle.std.proofs.lemmas.Option.{none-some}
 use Rattle.cbt_model.specs.declared.entries.Entry.{Entry}
 use Rattle.cbt_model.specs.declared.entries.EntryState.{EntryState}
@@ -12,11 +12,11 @@ use Rattle.cbt_book.specs.OwnLists.{In}
 use Rattle.cbt_book.specs.Passes.{is_expired, expired_in, covered_by, Finishes, EndsPass}
 use Rattle.cbt_book.specs.declared.cleaners.PassEnd.{PassEnd}
 use Rattle.cbt_book.specs.declared.cleaners.PassEnd.TheVariants as pass_end
-use Rattle.cbt_clean.proofs.Knowing.{NoneFailed, Progress, Leaves, State, passed}
+use Rattle.cbt_clean.proofs.Knowing.{NoneFailed, Progress, State, passed}
 use Rattle.cbt_clean.proofs.Moves.{Moves, reads_record, finds_off, finds_staged, takes, drops, evicts, finds_decided, leaves, finds_none, reads_entry, fails}
 use Rattle.cbt_clean.proofs.Moving.{moves}
-use Rattle.cbt_clean.proofs.Touching.{touches, Untouched, untouched_unfinished, ids_of}
-use Rattle.cbt_clean.specs.Phases.{taking_step, step_for, end_in, is_none_left, leaves_last, treat_in, go_on, with_entry, after}
+use Rattle.cbt_clean.proofs.Touching.{touches, untouched_unfinished}
+use Rattle.cbt_clean.specs.Phases.{taking_step, step_for, end_in, treat_in, go_on, with_entry, after}
 use Rattle.cbt_clean.specs.Standing.{Runs, begun, goes_on}
 use Rattle.cbt_clean.specs.declared.covers.Cover.{Cover}
 use Rattle.cbt_clean.specs.declared.phases.Phase.{Phase}
@@ -52,47 +52,22 @@ progress_unended : (r : ℕ) (first : Made) (later : List Made) (c : Cover) (a :
 progress_unended r first later c a it there unfinished end =
     unended r first (later ++ first ∷ []) it.entries a it.shown.1 (subst (λ l. In a l) it.covered_is there) it.fine unfinished end
 
-open_state : (r : ℕ) (first : Made) (later : List Made) (p : Phase) → State r first later p → end_in p ≡ None → leaves_last p ≡ false → (end : PassEnd)
+open_state : (r : ℕ) (first : Made) (later : List Made) (p : Phase) → State r first later p → end_in p ≡ None → (end : PassEnd)
     → ¬ EndsPass r first (later ++ first ∷ []) end
-open_state r first later Begun it going more end = absurd it
-open_state r first later (Clearing c at) it going more end = progress_unended r first later c c.attempt it.progress it.progress.current it.unfinished end
-open_state r first later (Taking c at s) it going more end = progress_unended r first later c c.attempt it.progress it.progress.current it.unfinished end
-open_state r first later (Evicting c false) it going more end =
+open_state r first later Begun it going end = absurd it
+open_state r first later (Clearing c at) it going end = progress_unended r first later c c.attempt it.progress it.progress.current it.unfinished end
+open_state r first later (Taking c at s) it going end = progress_unended r first later c c.attempt it.progress it.progress.current it.unfinished end
+open_state r first later (Evicting c false) it going end =
     progress_unended r first later c c.attempt it.progress it.progress.current
     (untouched_unfinished r c.attempt first later (ap (touches c.attempt) it.progress.shown.0) it.untouched) end
-open_state r first later (Evicting c true) it going more end = by c.waiting it.progress.among it.progress.untouched more
-  where
-    by : (waiting : List (ℕ × Entry)) → ((a : ℕ) → In a (map (λ x. x.0) waiting) → In a c.covered) → ((a : ℕ) → In a (map (λ x. x.0) waiting) → Untouched a later)
-        → is_none_left waiting ≡ false → ¬ EndsPass r first (later ++ first ∷ []) end
-    by [] among fresh some = absurd (cc)
-    by (x ∷ waiting) among fresh some =
-        progress_unended r first later c x.0 it.progress (among x.0 (inl refl))
-        (untouched_unfinished r x.0 first later (ap (touches x.0) it.progress.shown.0) (fresh x.0 (inl refl))) end
-open_state r first later (Asking c) it going more end =
+open_state r first later (Evicting c true) it going end = progress_unended r first later c c.attempt it.progress it.progress.current it.unfinished end
+open_state r first later (Asking c) it going end =
     progress_unended r first later c c.attempt it.clears.progress it.clears.progress.current it.clears.unfinished end
-open_state r first later (Ended last) it going more end = absurd (none-some last (sym going))
+open_state r first later (Ended last) it going end = absurd (none-some last (sym going))
 
-pub stays_open : (r : ℕ) (p : Phase) (first : Made) (later : List Made) (end : PassEnd) → Runs r p (later ++ first ∷ []) → end_in p ≡ None → leaves_last p ≡ false
+pub stays_open : (r : ℕ) (p : Phase) (first : Made) (later : List Made) (end : PassEnd) → Runs r p (later ++ first ∷ []) → end_in p ≡ None
     → ¬ EndsPass r first (later ++ first ∷ []) end
-stays_open r p first later end run going more = open_state r first later p (passed r p first later run).state going more end
-
-over_state : (r : ℕ) (first : Made) (later : List Made) (c : Cover) → Leaves r first later c → c.waiting ≡ [] → EndsPass r first (later ++ first ∷ []) (pass_end.Ok c.covered)
-over_state r first later c it none = record {
-  entries = it.progress.entries;
-  shown = it.progress.shown.1;
-  covered_is = it.progress.covered_is;
-  finished = λ a there.
-      ⊎_elim (λ done. done) (λ left. ⊎_elim (λ same. subst (λ b. Finishes r b (later ++ first ∷ [])) (sym same) it.finished)
-      (λ waits. absurd (subst (λ waiting. In a (ids_of waiting)) none waits)) left)
-      (it.progress.done a there);
-  answered = it.progress.fine;
-}
-
--- the last covered attempt is left: the calls are those of a pass that has ended
-pub is_over : (r : ℕ) (p : Phase) (c : Cover) (first : Made) (later : List Made) → Runs r p (later ++ first ∷ []) → p ≡ Evicting c true → c.waiting ≡ []
-    → EndsPass r first (later ++ first ∷ []) (pass_end.Ok c.covered)
-is_over r p c first later run is none =
-    over_state r first later c (passed r (Evicting c true) first later (subst (λ q. Runs r q (later ++ first ∷ [])) is run)).state none
+stays_open r p first later end run going = open_state r first later p (passed r p first later run).state going end
 
 -- a reading of a record that shows expired entries ends no pass
 pub reading_open : (r : ℕ) (first : Made) (end : PassEnd) → first.step ≡ step.ReadAtr r → covered_by first.answer.reply first.answer.now ≢ [] → ¬ EndsPass r first (first ∷ []) end

@@ -18,7 +18,7 @@ use Rattle.cbt_book.specs.Passes.{is_expired, expired_in, covered_by, IsDropped,
 use Rattle.cbt_book.specs.Shown.{ReadsEntry, ReadsRecord}
 use Rattle.cbt_clean.proofs.Keeping.{Keeps, kept}
 use Rattle.cbt_clean.proofs.Moves.{IsTakenOff, by_it, before_it, FindsOff, absent, unstaged, of_another, elsewhere, Moves, reads_record, finds_off, finds_staged, takes, drops, evicts, finds_decided, leaves, finds_none, reads_entry, fails}
-use Rattle.cbt_clean.proofs.Touching.{touches, Untouched, drops_of, drops_more, drops_same, untouched_drops, untouched_reads, finishes_more, quiet_unfinished, untouched_unfinished, decided_unfinished, read_unfinished, ids_of, Apart, apart_kept}
+use Rattle.cbt_clean.proofs.Touching.{touches, Untouched, drops_of, drops_more, drops_same, untouched_drops, untouched_reads, ReadsPending, untouched_pending, finishes_more, quiet_unfinished, untouched_unfinished, decided_unfinished, read_unfinished, ids_of, Apart, apart_kept}
 use Rattle.cbt_clean.specs.Phases.{docs_of, publish, take_off, clearing_step, taking_step, step_for, treat_in, go_on, next, with_entry}
 use Rattle.cbt_clean.specs.Staging.{Staging}
 use Rattle.cbt_clean.specs.Standing.{Runs}
@@ -72,11 +72,12 @@ pub record Evicts (r : ℕ) (first : Made) (later : List Made) (c : Cover) : Typ
   pub progress : Progress r first later c
   pub untouched : Untouched c.attempt later
 
--- a drop of its entry was refused, and it was read pending then
+-- a drop of its entry was refused, and it was read pending then: a drop is to be sent once more
 pub record Leaves (r : ℕ) (first : Made) (later : List Made) (c : Cover) : Type 0 where
   pub progress : Progress r first later c
   pub few : drops_of c.attempt later ≤ 1
-  pub finished : Finishes r c.attempt (later ++ first ∷ [])
+  pub pends : ReadsPending r c.attempt (later ++ first ∷ [])
+  pub unfinished : ¬ Finishes r c.attempt (later ++ first ∷ [])
 
 -- a drop of its entry was refused
 pub record Asks (r : ℕ) (first : Made) (later : List Made) (c : Cover) : Type 0 where
@@ -256,27 +257,22 @@ module _ (r : ℕ) (first : Made) (later : List Made) (m : Made) where
   read_few : (c : Cover) (e : Entry) → ReadsEntry r c.attempt e m → drops_of c.attempt later ≤ 1 → drops_of c.attempt (m ∷ later) ≤ 1
   read_few c e reads few = let same = drops_same c.attempt m later (ap (drops_entry_of c.attempt) reads.0) in omega arith
 
-  read_decided : (c : Cover) (e : Entry) → ReadsEntry r c.attempt e m → Asks r first later c → e.state ≢ Pending → Clears r first (m ∷ later) (with_entry c e)
-  read_decided c e reads it decided = record {
+  read_decided : (c : Cover) (e : Entry) → ReadsEntry r c.attempt e m → Asks r first later c → Clears r first (m ∷ later) (with_entry c e)
+  read_decided c e reads it = record {
     progress = read_progress c e reads it.clears.progress;
     few = read_few c e reads it.clears.few;
-    unfinished = read_unfinished r c.attempt e m (later ++ first ∷ []) reads decided it.clears.unfinished;
+    unfinished = read_unfinished r c.attempt e m (later ++ first ∷ []) reads it.clears.unfinished;
   }
 
   read_state : (c : Cover) (e : Entry) → ReadsEntry r c.attempt e m → Asks r first later c → (state : EntryState) → e.state ≡ state → State r first (m ∷ later) (treat_in state (with_entry c e) true)
   read_state c e reads it Pending is = record {
     progress = read_progress c e reads it.clears.progress;
     few = read_few c e reads it.clears.few;
-    finished = pending (inl ((e, reads, is), it.refused));
+    pends = inl ((e, reads, is), it.refused);
+    unfinished = read_unfinished r c.attempt e m (later ++ first ∷ []) reads it.clears.unfinished;
   }
-  read_state c e reads it Committed is = read_decided c e reads it (λ pends. differ (sym is ∙ pends))
-    where
-      differ : Committed ≡ Pending → ⊥
-      differ both = cc
-  read_state c e reads it Aborted is = read_decided c e reads it (λ pends. differ (sym is ∙ pends))
-    where
-      differ : Aborted ≡ Pending → ⊥
-      differ both = cc
+  read_state c e reads it Committed is = read_decided c e reads it
+  read_state c e reads it Aborted is = read_decided c e reads it
 
   -- a pending entry is dropped, or a drop of it was refused
   evicted : (c : Cover) (again : Bool) → m.step ≡ step.DropEntry r c.attempt true → m.answer.reply ≢ reply.Failed → Finishes r c.attempt (m ∷ (later ++ first ∷ []))
@@ -290,6 +286,7 @@ module _ (r : ℕ) (first : Made) (later : List Made) (m : Made) where
       progress = progress_more r first later m c (fine r first later m reply.Decided told refl) (drop_alone c.attempt true is) it.progress;
       few = let none = untouched_drops c.attempt later it.untouched in let more = drops_more c.attempt m later in omega arith;
       unfinished = decided_unfinished r c.attempt m (later ++ first ∷ []) is told
+          (untouched_pending r c.attempt first later (ap (touches c.attempt) it.progress.shown.0) it.untouched)
           (untouched_unfinished r c.attempt first later (ap (touches c.attempt) it.progress.shown.0) it.untouched);
     };
     unread = λ once. ⊎_elim (λ here. differ (sym is ∙ here)) (λ before. untouched_reads r c.attempt later it.untouched before) once;
@@ -321,7 +318,7 @@ module _ (r : ℕ) (first : Made) (later : List Made) (m : Made) where
       progress_next r first later m c (dropped_fine r first later m gone) (drop_alone c.attempt false is) it.progress (dropped (inl (false, is, gone)))
   state_on _ _ (evicts c again is gone) it = evicted c again is (dropped_fine r first later m gone) (dropped (inl (true, is, gone))) it
   state_on _ _ (finds_decided c is told) it = refused c is told it
-  state_on _ _ (leaves c is told) it = evicted c true is (fine r first later m reply.Decided told refl) (finishes_more r c.attempt m (later ++ first ∷ []) it.finished) it
+  state_on _ _ (leaves c is told) it = evicted c true is (fine r first later m reply.Decided told refl) (pending (inl (is, it.pends))) it
   state_on _ _ (finds_none c finds) it =
       progress_next r first later m c (fine r first later m reply.NoEntry finds.1 refl) (read_alone c.attempt finds.0) it.clears.progress (missing (inl finds))
   state_on _ _ (reads_entry c e reads) it = read_state c e reads it e.state refl

@@ -69,12 +69,17 @@ pub untouched_reads : (r a : ℕ) (calls : List Made) → Untouched a calls → 
 untouched_reads r a [] quiet once = once
 untouched_reads r a (m ∷ calls) quiet once = ⊎_elim (λ here. reads_itself r a m.step quiet.0 here) (λ later. untouched_reads r a calls quiet.1 later) once
 
--- the newest call drops the entry, finds none, or reads it pending after a drop was refused
+-- the entry was decided when it was to be dropped, and pending when it was read then
+abbrev pub ReadsPending : ℕ → ℕ → List Made → Type 0
+ReadsPending r a calls = Once (λ m before. ((e : Entry) × ReadsEntry r a e m × (e.state ≡ Pending))
+    × Once (λ n _. (n.step ≡ step.DropEntry r a true) × (n.answer.reply ≡ reply.Decided)) before) calls
+
+-- the newest call drops the entry, finds none, or sends a drop of one that was read pending after a drop was refused
 abbrev pub EndsIt : ℕ → ℕ → Made → List Made → Type 0
 EndsIt r a m calls =
     ((guarded : Bool) × (m.step ≡ step.DropEntry r a guarded) × IsDropped m.answer.reply)
     ⊎ FindsNoEntry r a m
-    ⊎ ((e : Entry) × ReadsEntry r a e m × (e.state ≡ Pending))
+    ⊎ ((m.step ≡ step.DropEntry r a true) × ReadsPending r a calls)
 
 -- what finishes an attempt does so still after further calls
 pub finishes_more : (r a : ℕ) (m : Made) (calls : List Made) → Finishes r a calls → Finishes r a (m ∷ calls)
@@ -86,14 +91,14 @@ finishes_more r a m calls (pending once) = pending (inr once)
 finishes_less : (r a : ℕ) (m : Made) (calls : List Made) → Finishes r a (m ∷ calls) → EndsIt r a m calls ⊎ Finishes r a calls
 finishes_less r a m calls (dropped once) = ⊎_elim (λ here. inl (inl here)) (λ later. inr (dropped later)) once
 finishes_less r a m calls (missing once) = ⊎_elim (λ here. inl (inr (inl here))) (λ later. inr (missing later)) once
-finishes_less r a m calls (pending once) = ⊎_elim (λ here. inl (inr (inr here.0))) (λ later. inr (pending later)) once
+finishes_less r a m calls (pending once) = ⊎_elim (λ here. inl (inr (inr here))) (λ later. inr (pending later)) once
 
 pub unfinished_more : (r a : ℕ) (m : Made) (calls : List Made) → ¬ EndsIt r a m calls → ¬ Finishes r a calls → ¬ Finishes r a (m ∷ calls)
 unfinished_more r a m calls not_by before finished = ⊎_elim (λ here. not_by here) (λ earlier. before earlier) (finishes_less r a m calls finished)
 
 quiet_ends : (r a : ℕ) (m : Made) (calls : List Made) → touches a m.step ≡ false → ¬ EndsIt r a m calls
 quiet_ends r a m calls quiet ends =
-    ⊎_elim (λ drop. drops_itself r a drop.0 m.step quiet drop.1) (λ reads. ⊎_elim (λ none. reads_itself r a m.step quiet none.0) (λ it. reads_itself r a m.step quiet it.1.0) reads) ends
+    ⊎_elim (λ drop. drops_itself r a drop.0 m.step quiet drop.1) (λ reads. ⊎_elim (λ none. reads_itself r a m.step quiet none.0) (λ it. drops_itself r a true m.step quiet it.0) reads) ends
 
 pub quiet_unfinished : (r a : ℕ) (m : Made) (calls : List Made) → touches a m.step ≡ false → ¬ Finishes r a calls → ¬ Finishes r a (m ∷ calls)
 quiet_unfinished r a m calls quiet before = unfinished_more r a m calls (quiet_ends r a m calls quiet) before
@@ -108,9 +113,16 @@ untouched_unfinished r a first [] quiet each = quiet_unfinished r a first [] qui
 untouched_unfinished r a first (m ∷ later) quiet each =
     quiet_unfinished r a m (later ++ first ∷ []) each.0 (untouched_unfinished r a first later quiet each.1)
 
--- a refused drop finishes nothing
-pub decided_unfinished : (r a : ℕ) (m : Made) (calls : List Made) → m.step ≡ step.DropEntry r a true → m.answer.reply ≡ reply.Decided → ¬ Finishes r a calls → ¬ Finishes r a (m ∷ calls)
-decided_unfinished r a m calls is told before = unfinished_more r a m calls never before
+-- without a call on its entry it was not read
+pub untouched_pending : (r a : ℕ) (first : Made) (later : List Made) → touches a first.step ≡ false → Untouched a later → ¬ ReadsPending r a (later ++ first ∷ [])
+untouched_pending r a first [] quiet each once = ⊎_elim (λ here. reads_itself r a first.step quiet here.0.1.0) (λ none. none) once
+untouched_pending r a first (m ∷ later) quiet each once =
+    ⊎_elim (λ here. reads_itself r a m.step each.0 here.0.1.0) (λ before. untouched_pending r a first later quiet each.1 before) once
+
+-- a refused drop finishes nothing, where the entry was not read pending
+pub decided_unfinished : (r a : ℕ) (m : Made) (calls : List Made) → m.step ≡ step.DropEntry r a true → m.answer.reply ≡ reply.Decided → ¬ ReadsPending r a calls → ¬ Finishes r a calls
+    → ¬ Finishes r a (m ∷ calls)
+decided_unfinished r a m calls is told unread before = unfinished_more r a m calls never before
   where
     undropped : ¬ IsDropped reply.Decided
     undropped gone = ⊎_elim (λ done. no_done done) (λ none. no_none none) gone
@@ -128,11 +140,11 @@ decided_unfinished r a m calls is told before = unfinished_more r a m calls neve
         differ both = cc
 
     never : ¬ EndsIt r a m calls
-    never ends = ⊎_elim (λ drop. undropped (subst IsDropped told drop.2)) (λ reads. ⊎_elim (λ none. no_reading none.0) (λ it. no_reading it.1.0) reads) ends
+    never ends = ⊎_elim (λ drop. undropped (subst IsDropped told drop.2)) (λ reads. ⊎_elim (λ none. no_reading none.0) (λ it. unread it.1) reads) ends
 
--- nor does a reading that shows the entry decided
-pub read_unfinished : (r a : ℕ) (e : Entry) (m : Made) (calls : List Made) → ReadsEntry r a e m → e.state ≢ Pending → ¬ Finishes r a calls → ¬ Finishes r a (m ∷ calls)
-read_unfinished r a e m calls reads decided before = unfinished_more r a m calls never before
+-- nor does a reading that shows the entry
+pub read_unfinished : (r a : ℕ) (e : Entry) (m : Made) (calls : List Made) → ReadsEntry r a e m → ¬ Finishes r a calls → ¬ Finishes r a (m ∷ calls)
+read_unfinished r a e m calls reads before = unfinished_more r a m calls never before
   where
     no_drop : (guarded : Bool) → m.step ≡ step.DropEntry r a guarded → ⊥
     no_drop guarded is = differ (sym reads.0 ∙ is)
@@ -146,16 +158,10 @@ read_unfinished r a e m calls reads decided before = unfinished_more r a m calls
         differ : reply.Entry e ≡ reply.NoEntry → ⊥
         differ both = cc
 
-    same_entry : (f : Entry) → m.answer.reply ≡ reply.Entry f → e ≡ f
-    same_entry f told = by (sym reads.1 ∙ told)
-      where
-        by : reply.Entry e ≡ reply.Entry f → e ≡ f
-        by both = cc
-
     never : ¬ EndsIt r a m calls
     never ends =
         ⊎_elim (λ drop. no_drop drop.0 drop.1)
-        (λ shown. ⊎_elim (λ none. no_none none.1) (λ it. decided (ap (λ (f : Entry). f.state) (same_entry it.0 it.1.1) ∙ it.2)) shown) ends
+        (λ shown. ⊎_elim (λ none. no_none none.1) (λ it. no_drop true it.0) shown) ends
 
 -- the attempts of entries
 abbrev pub ids_of : List (ℕ × Entry) → List ℕ

@@ -69,20 +69,6 @@ end_in (Ended end) = Some end
 abbrev pub end_of : Pass → Option PassEnd
 end_of pass = end_in pass.phase
 
-abbrev pub is_none_left : List (ℕ × Entry) → Bool
-is_none_left [] = true
-is_none_left (x ∷ waiting) = false
-
-abbrev pub is_last_again : Bool → List (ℕ × Entry) → Bool
-is_last_again false waiting = false
-is_last_again true waiting = is_none_left waiting
-
--- whether the last covered attempt was decided when its entry was to be dropped, and pending when it was read then: that never
--- comes, and the entry is left, after one call more
-abbrev pub leaves_last : Phase → Bool
-leaves_last (Evicting c again) = is_last_again again c.waiting
-leaves_last _ = false
-
 abbrev pub failed : ℕ → Phase
 failed place = Ended (pass_end.CallFailed place)
 

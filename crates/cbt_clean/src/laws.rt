@@ -11,10 +11,9 @@ ghost use Rattle.cbt_book.specs.Numbers.{Identity};
 ghost use Rattle.cbt_book.specs.OwnLists.{Each};
 ghost use Rattle.cbt_book.specs.Passes.{covered_by, EndsPass, PassCalls};
 ghost use Rattle.cbt_book.specs.Shown.{adds, decides};
-ghost use Rattle.cbt_clean.specs.Phases.{calls_by, calls_due, calls_left, end_of, leaves_last, step_of};
+ghost use Rattle.cbt_clean.specs.Phases.{calls_by, calls_due, calls_left, end_of, step_of};
 ghost use Rattle.cbt_clean.specs.Ready.{cleans, DecidesNothing};
 ghost use Rattle.cbt_clean.specs.Standing.{StandsFor};
-ghost use Rattle.cbt_clean.specs.declared.covers.Cover.{Cover};
 ghost use Rattle.cbt_clean.specs.declared.passes.Pass.{Pass};
 
 use crate::phases::Phase;
@@ -35,16 +34,10 @@ pub fn passes_end_right()
 {}
 
 /// While a pass has not ended, its calls come to no end, so a pass that is cut off is none that has ended.
-/// There is one case apart, which never comes: the last attempt was decided when its entry was to be
-/// dropped, and pending when it was read then. It is left, so its pass is over before its last call.
 pub fn passes_stay_open()
     ensures opens { (pass : Pass) (first : Made) (later : List Made) (end : PassEnd)
-        → StandsFor pass (later ++ first ∷ []) → end_of pass ≡ None → leaves_last pass.phase ≡ false
+        → StandsFor pass (later ++ first ∷ []) → end_of pass ≡ None
         → ¬ EndsPass pass.atr first (later ++ first ∷ []) end }
-    ensures over { (pass : Pass) (cover : Cover) (first : Made) (later : List Made)
-        → StandsFor pass (later ++ first ∷ []) → pass.phase ≡ Phase.Evicting cover true → cover.waiting ≡ []
-        → EndsPass pass.atr first (later ++ first ∷ []) (PassEnd.Ok cover.covered) }
-
     // A reading that shows expired entries is the first call of a pass, and not its last.
     ensures refused { (r : ℕ) (first : Made) → first.step ≡ step.ReadAtr r
         → covered_by first.answer.reply first.answer.now ≢ []

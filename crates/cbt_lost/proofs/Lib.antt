@@ -1,0 +1,14 @@
+pub mod Outcomes
+pub mod Lists
+pub mod Spanning
+pub mod Due
+pub mod Inactive
+pub mod Passing
+pub mod Touring
+pub mod Rounding
+pub mod Stepping
+pub mod Growing
+pub mod Telling
+pub mod Coming
+pub mod Licensing
+pub mod Bounds

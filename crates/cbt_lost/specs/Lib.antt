@@ -1,0 +1,4 @@
+pub mod Gone
+pub mod Tours
+pub mod Rounds
+pub mod Cleaning
