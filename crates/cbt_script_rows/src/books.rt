@@ -3,8 +3,8 @@
 use anyhow::Result;
 use cbt_base::{DocId, Id, List, Map, NoMemory};
 use cbt_book::{
-    AttemptEnd, AttemptLog, Book, CleanerLog, ClientLog, OpAnswer, OpLog, Span, TxnEnd, TxnLog,
-    When, Why,
+    AttemptEnd, AttemptLog, Book, CleanerLog, ClientLog, OpAnswer, OpLog, PassEnd, PassLog,
+    RoundLog, Share, Span, TxnEnd, TxnLog, When, Why,
 };
 use cbt_json::Json;
 use cbt_model::{
@@ -26,7 +26,8 @@ pub fn nothing_happened(alloc: Global) -> Book {
 }
 
 /// One attempt has a pending entry and loses its first commit, and another has no entry. Of the
-/// client's transactions each ends in another way, in the order of the list of outcomes.
+/// client's transactions each ends in another way, in the order of the list of outcomes. There are a
+/// cleaner and a sweep.
 pub fn each_outcome(alloc: Global) -> Result<Book> {
     let here = Id::attempt(1, 1, 1);
     let gone = Id::attempt(1, 1, 2);
@@ -42,16 +43,61 @@ pub fn each_outcome(alloc: Global) -> Result<Book> {
     let txns = one_of_each_end(alloc)?;
     clients.push(ClientLog { txns, calls: 3 })?;
     let mut book = book_of(alloc, opening, history, clients);
-    book.cleaners.push(stopped_cleaner(alloc))?;
+    book.cleaners.push(stopped_cleaner(alloc, here)?)?;
+    book.cleaners.push(sweep(alloc, here, gone)?)?;
     Ok(book)
 }
 
-fn stopped_cleaner(alloc: Global) -> CleanerLog {
-    CleanerLog {
+// Three rounds: one that did not come to a share, one of two passes, of which the second failed, and
+// one that was stopped before it came to a share.
+fn stopped_cleaner(alloc: Global, attempt: Id) -> Result<CleanerLog, NoMemory> {
+    let mut covered = List::new(alloc);
+    covered.push(attempt)?;
+    let mut passes = List::new(alloc);
+    passes.push(pass(1, PassEnd::Ok { covered }))?;
+    passes.push(pass(3, PassEnd::CallFailed { place: 5 }))?;
+    let mut rounds = List::new(alloc);
+    rounds.push(round(None, List::new(alloc)))?;
+    rounds.push(round(Some(Share { index: 1, of: 2 }), passes))?;
+    rounds.push(round(None, List::new(alloc)))?;
+    Ok(CleanerLog {
         id: Id::cleaner(1),
-        rounds: List::new(alloc),
+        rounds,
         stopped: true,
-        calls: 0,
+        calls: 4,
+    })
+}
+
+// One round, whose one pass covered two attempts.
+fn sweep(alloc: Global, one: Id, other: Id) -> Result<CleanerLog, NoMemory> {
+    let mut covered = List::new(alloc);
+    covered.push(one)?;
+    covered.push(other)?;
+    let mut passes = List::new(alloc);
+    passes.push(pass(RECORD, PassEnd::Ok { covered }))?;
+    let mut rounds = List::new(alloc);
+    rounds.push(round(Some(Share { index: 0, of: 1 }), passes))?;
+    Ok(CleanerLog {
+        id: Id::cleaner(2),
+        rounds,
+        stopped: false,
+        calls: 2,
+    })
+}
+
+fn pass(atr: u16, end: PassEnd) -> PassLog {
+    PassLog {
+        atr,
+        span: Span { from: 0, to: 1 },
+        end,
+    }
+}
+
+fn round(share: Option<Share>, passes: List<PassLog>) -> RoundLog {
+    RoundLog {
+        span: Span { from: 0, to: 1 },
+        share,
+        passes,
     }
 }
 

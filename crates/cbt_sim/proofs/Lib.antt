@@ -1,0 +1,11 @@
+pub mod Actors
+pub mod Adding
+pub mod Kept
+pub mod Limits
+pub mod Logs
+pub mod Openings
+pub mod Places
+pub mod Plans
+pub mod Promising
+pub mod Telling
+pub mod Whole

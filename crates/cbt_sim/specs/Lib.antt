@@ -1,0 +1,4 @@
+pub mod Adding
+pub mod Cases
+pub mod Crew
+pub mod Told
