@@ -14,3 +14,4 @@ pub mod Invariant
 pub mod Openings
 pub mod Lawful
 pub mod Stops
+pub mod Staying

@@ -124,6 +124,14 @@ attempt_closed t l0 told closing cut log falls it id spans well ends =
           ∙ during_span (calls ++ told) l0 falls_joined)) ends;
     }
 
+-- its parts are these
+pub attempt_parts : (t : AttemptTerms) (l0 told closing cut : List Made) (log : AttemptLog) → Descends ((closing ++ cut) ++ (told ++ l0))
+    → Told t l0 told log.ops → log.id ≡ t.id → log.span ≡ span_of (past_of l0) ((closing ++ cut) ++ told) → ClosesWell t log closing cut
+    → Ends t (course_of t log cut closing) ((closing ++ cut) ++ told) log.end
+    → (it : AttemptFollows t ((closing ++ cut) ++ (told ++ l0)) (past_of l0) log) × (it.cut ≡ cut) × (it.closing ≡ closing)
+unfolding attempt_closed
+attempt_parts t l0 told closing cut log falls it id spans well ends = (attempt_closed t l0 told closing cut log falls it id spans well ends, refl, refl)
+
 -- a stop cuts the operation under way off
 cut_by_stop : (t : AttemptTerms) (log : AttemptLog) (calls : List Made) → Operates t log.ops calls → log.end ≡ attempt_end.Stopped
     → CutFollows t (course_of t log calls []) calls

@@ -228,7 +228,9 @@ module _ (t : AttemptTerms) (c : Operations) (l0 told : List Made) (it : Between
           of_attempt = it.under.id_is;
           stands_on = answers.on_earlier last.0 last.1 (ap (agrees kind) (sym last.3) ∙ agreed) last.2 last.3 last.4;
           reads_are = inl refl;
+          read_last = inl refl;
           stands = stands;
+          asked_for = tt;
           sent_before = λ sent. sent;
           sent = sent_first c.attempt d (unstamped kind content) seen;
         }

@@ -50,6 +50,7 @@ use Rattle.cbt_txn.specs.declared.operations.Work.TheVariants as work
 use Rattle.cbt_txn.specs.declared.tries.Closing.{Closing}
 use Rattle.cbt_txn.specs.declared.tries.Closing.TheVariants as closing
 use Rattle.cbt_txn.specs.declared.tries.Try.{Try}
+use Rattle.cbt_txn.proofs.ClosingsOpen.{commit_goes_on, vain_passes}
 use Rattle.cbt_txn.proofs.Closings.{span_so_far, commit_closes, operations_close, commits_close}
 use Rattle.cbt_txn.proofs.Ending.{few_answered, ends_committed, ends_empty, ends_failed_call, ends_late, ends_rolled_back, ends_unknown, right_refused}
 use Rattle.cbt_txn.proofs.Over.{AllDone, log_follows, told_by, when_done, when_late, when_refused}
@@ -264,7 +265,8 @@ module _ (t : AttemptTerms) (it : Try) (l0 mine : List Made) (id : it.operations
         let so = ends_by (finish.task_of f) f.phase calls (finish_end.NotCommitted place.0) stands.runs place.1 in
         closings.undoes u (noted it.operations.attempt.writes) [] calls ops parts fol
         (closings.for_commits (vain ∙ is) done keep (subst (λ a. ThirdInVain a calls) attempt so.third) (only_commits f.attempt calls so.only)
-        (subst (λ a. Each (λ m past. MayClose a past m.step) calls) attempt (all_close (finish.task_of f) f.phase calls stands.listed stands.runs)))
+        (subst (λ a. Each (λ m past. MayClose a past m.step) calls) attempt (all_close (finish.task_of f) f.phase calls stands.listed stands.runs))
+        (commit_goes_on (finish.task_of f) f.phase calls stands.runs (vain_passes f.phase place.0 place.1)))
         (begins.attempt ∙ id) begins.own begins.stands begins.going
 
     pub finished_follows : (r : ℕ) → it.operations.attempt.sent ≡ Some r → Finished it.operations.attempt f it.closing → TryFollows t it l0 mine
@@ -308,7 +310,7 @@ module _ (t : AttemptTerms) (it : Try) (l0 mine : List Made) (id : it.operations
       (fol : Follows t it.operations l0 ops) (why : IsRolledBack t it commits_before ops) (attempt : u.attempt ≡ t.id)
       (is_of : undo_ready.IsOf own (undo.task_of u)) (stands : undo_stands.StandsFor u calls) where
     -- the calls of the operation that was cut off, and why the try may be rolled back
-    record IsClosed : Type 0 where
+    pub record IsClosed : Type 0 where
       pub told : List Made
       pub cut : List Made
       pub parts_are : mine ≡ (calls ++ commits_before) ++ (cut ++ told)
@@ -317,7 +319,7 @@ module _ (t : AttemptTerms) (it : Try) (l0 mine : List Made) (id : it.operations
       pub may : MayRollBack t (course_of t log cut (calls ++ commits_before))
       pub before : AreCommits commits_before
 
-    closed : IsClosed
+    pub closed : IsClosed
     closed = by why
       where
         by : IsRolledBack t it commits_before ops → IsClosed
@@ -334,7 +336,7 @@ module _ (t : AttemptTerms) (it : Try) (l0 mine : List Made) (id : it.operations
               may = told.may (calls ++ commits_before) unkept;
               before = subst AreCommits (sym none) tt;
             }
-        by (closings.for_commits set done keep third are each) =
+        by (closings.for_commits set done keep third are each on_way) =
             let all = when_done t it.operations l0 ops fol done in
             record {
               told = ops;
@@ -360,7 +362,7 @@ module _ (t : AttemptTerms) (it : Try) (l0 mine : List Made) (id : it.operations
         by (closings.for_operations none unset over unkept undecided) =
             subst (λ b. IsRight t (mine ++ l0) log (Some (after_rollback b it.operations.work it.operations.logs))) (sym unset)
             (right_for_operations ops (calls ++ commits_before) parts fol over unkept undecided ended)
-        by (closings.for_commits set done keep third are each) =
+        by (closings.for_commits set done keep third are each on_way) =
             subst (λ b. IsRight t (mine ++ l0) log (Some (after_rollback b it.operations.work it.operations.logs))) (sym set)
             (transactions.after_commits ended set)
 

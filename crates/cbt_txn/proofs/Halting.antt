@@ -43,7 +43,7 @@ fine_before t [] fine = tt
 fine_before t (m ∷ calls) fine = fine.1
 
 -- a write over an own write that has not ended has made no call
-uncalled : (o : _) (end : Option PutEnd) (calls : List Made) → KnowsOnce o end calls → end ≡ None → calls ≡ []
+pub uncalled : (o : _) (end : Option PutEnd) (calls : List Made) → KnowsOnce o end calls → end ≡ None → calls ≡ []
 uncalled o None calls knows is = knows
 uncalled o (Some end) calls knows is = cc
 

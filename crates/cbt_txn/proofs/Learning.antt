@@ -173,8 +173,8 @@ module _ (who : Identity) (t : AttemptTerms) (it new : Try) (l0 mine : List Made
       why_new commits ops (closings.for_operations none unset over unkept undecided) =
           closings.for_operations none (same_vain ∙ unset) (subst (λ (o : Operations). is_over o.work ≡ true) (sym same) over)
           (ap (λ (o : Operations). Rattle.cbt_txn.specs.Deciding.is_kept t.plan.keep o.work) same ∙ unkept) undecided
-      why_new commits ops (closings.for_commits set done keep third are each) =
-          closings.for_commits (same_vain ∙ set) (ap (λ (o : Operations). o.work) same ∙ done) keep third are each
+      why_new commits ops (closings.for_commits set done keep third are each on_way) =
+          closings.for_commits (same_vain ∙ set) (ap (λ (o : Operations). o.work) same ∙ done) keep third are each on_way
 
       pub undo_learns : new.closing ≡ undone next_undo → TryFollows t new l0 (m ∷ mine)
       undo_learns becomes = by it.closing follows.closes is

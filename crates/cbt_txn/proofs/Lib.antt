@@ -1,4 +1,5 @@
 pub mod Closings
+pub mod ClosingsOpen
 pub mod Over
 pub mod Noting
 pub mod Agreeing
@@ -38,4 +39,11 @@ pub mod TxnBounds
 pub mod Standing
 pub mod Advancing
 pub mod ClientBounds
+pub mod ClientCalls
 pub mod Answering
+pub mod Apart
+pub mod GetsOpen
+pub mod ReadOnce
+pub mod PutsOpen
+pub mod OpsOpen
+pub mod TryCalls

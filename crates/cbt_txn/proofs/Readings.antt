@@ -274,7 +274,9 @@ module _ (t : AttemptTerms) (c : Operations) (l0 told calls : List Made) (d : Li
               of_attempt = it.under.id_is;
               stands_on = answers.on_own it.asks.unserved it.ends agreed;
               reads_are = inr (it.reads, it.asks.unserved);
+              read_last = inr it.last;
               stands = put_stands t c.attempt it.under d write seen made is;
+              asked_for = tt;
               sent_before = λ sent. sent;
               sent = sent_first c.attempt d write seen;
             }) (put_goes c.attempt d write seen);

@@ -129,7 +129,7 @@ module _ (o : Origin) (txns : List TxnLog) (at : ℕ) (before : List Made) (it :
       ap (λ k. slice_set k at log) (it.txns_are ∙ ap (λ k. it.done ++ k) has.behind_is) ∙ ap (λ n. slice_set (it.done ++ has.next ∷ has.rest) n log) it.at_is
       ∙ set_behind it.done has.next log has.rest
 
-  take_next : (log : TxnLog) (rest : List TxnLog) → take (at + 1) (it.done ++ log ∷ rest) ≡ it.done ++ log ∷ []
+  pub take_next : (log : TxnLog) (rest : List TxnLog) → take (at + 1) (it.done ++ log ∷ rest) ≡ it.done ++ log ∷ []
   take_next log rest = ap (λ n. take n (it.done ++ log ∷ rest)) (one_more at ∙ ap suc it.at_is) ∙ up_to it.done log rest
 
   take_done : it.behind ≡ [] → take (at + 1) txns ≡ it.done
@@ -164,7 +164,7 @@ none_stopped [] run was = was
 none_stopped (x ∷ []) run was = run.0 was
 none_stopped (x ∷ y ∷ done) run was = none_stopped (y ∷ done) run.1 was
 
-low_test : (n at : ℕ) → at < n → nat_le n at ≡ false
+pub low_test : (n at : ℕ) → at < n → nat_le n at ≡ false
 low_test n at low = grind (arith, nat_tests)
 
 high_test : (n at : ℕ) → n ≤ at → nat_le n at ≡ false → ⊥

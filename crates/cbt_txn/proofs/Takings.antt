@@ -7,6 +7,7 @@ use Rattle.cbt_model.specs.declared.events.Answer.{Answer}
 use Rattle.cbt_model.specs.declared.events.Made.{Made}
 use Rattle.cbt_model.specs.declared.steps.Reply.TheVariants as reply
 use Rattle.cbt_model.specs.declared.steps.Step.{Step}
+use Rattle.cbt_model.specs.declared.steps.Step.TheVariants as step
 use Rattle.cbt_book.specs.OwnLists.{Descends}
 use Rattle.cbt_core.specs.OpCalls.{write_terms}
 use Rattle.cbt_core.specs.Walk.{AttemptTerms}
@@ -24,10 +25,13 @@ use Rattle.cbt_read.specs.declared.phases.Phase as get_phases
 use Rattle.cbt_read.specs.declared.phases.Phase.TheVariants as get_phase
 use Rattle.cbt_read.proofs.Stands as get_stands
 use Rattle.cbt_stage.specs.Phases as put
+use Rattle.cbt_stage.specs.Standing as put_standing
 use Rattle.cbt_stage.specs.Tasks.{is_staging, record_added}
 use Rattle.cbt_stage.specs.declared.ends.PutEnd.{PutEnd}
+use Rattle.cbt_stage.specs.declared.phases.Phase as put_phases
 use Rattle.cbt_stage.specs.declared.phases.Phase.TheVariants as put_phase
 use Rattle.cbt_stage.specs.declared.puts.Put.{Put}
+use Rattle.cbt_stage.specs.declared.tasks.Task.{Task}
 use Rattle.cbt_stage.proofs.Rewriting as again_stands
 use Rattle.cbt_stage.proofs.Stands as put_stands
 use Rattle.cbt_txn.specs.Feeding.{fed, fed_put, fed_read, learnt, with_sent, with_staging}
@@ -103,6 +107,7 @@ module _ (t : AttemptTerms) (c : Operations) (l0 told calls : List Made) (s : St
         agrees = goes.agrees;
         reads = stands_new.bounded;
         ends = subst (λ p. get_standing.Knows it.doc p (made_of s ans ∷ calls)) is stands_new.knows;
+        last = record { phase = it.phase; newest = made_of s ans; older = calls; calls_are = refl; knows = stands.knows; asked = asks; ended = is };
         in_time = (timed, each_more (λ m. (m.answer.now ≤ t.latest) × (m.answer.reply ≢ reply.Failed)) (λ m. m.answer.now ≤ t.latest) calls (λ m fine. fine.0) goes.fine);
         failed = (
           (λ failed. some_same (sym (ap get.end_in is) ∙ ap (λ r. get.end_in (get.after it.phase ans.place r)) failed
@@ -123,6 +128,21 @@ module _ (t : AttemptTerms) (c : Operations) (l0 told calls : List Made) (s : St
       going_on t c l0 told calls s ans c.attempt (work.Get (new (get_phase.Again staged gone place left)) write) under stood
       (get_works write asks_read (get_phase.Again staged gone place left) is refl)
   get_taken write asks_read (get_phase.Ended end) is = get_reads write asks_read end is
+
+-- a put asks for the entry of the attempt whose write waits in the document
+waits_for : (o : Task) (p : put_phases.Phase) (mine : List Made) (s : Step) (r by : ℕ) → put.step_for o p ≡ Some s → s ≡ step.ReadEntry r by
+    → put_standing.Knows o p mine → put_standing.Waits o r by
+waits_for o (put_phase.Asking q b left) mine s r by asks is was =
+    subst (λ k. put_standing.Waits o k by) (same_record asks is) (subst (λ k. put_standing.Waits o q k) (same_attempt asks is) was.waits)
+  where
+    same_record : {q b r by : ℕ} {s : Step} → Some (step.ReadEntry q b) ≡ Some s → s ≡ step.ReadEntry r by → q ≡ r
+    same_record one two = cc
+
+    same_attempt : {q b r by : ℕ} {s : Step} → Some (step.ReadEntry q b) ≡ Some s → s ≡ step.ReadEntry r by → b ≡ by
+    same_attempt one two = cc
+waits_for o put_phase.Adding mine s r by asks is was = absurd (cc)
+waits_for o put_phase.Staging mine s r by asks is was = absurd (cc)
+waits_for o (put_phase.Ended end) mine s r by asks is was = absurd (cc)
 
 -- a put
 module _ (t : AttemptTerms) (c : Operations) (l0 told mine reads : List Made) (s : Step) (ans : Answer) (o : Op) (it : Put)
@@ -150,7 +170,9 @@ module _ (t : AttemptTerms) (c : Operations) (l0 told mine reads : List Made) (s
         of_attempt = on.of_attempt;
         stands_on = on.stands_on;
         reads_are = on.reads_are;
+        read_last = on.read_last;
         stands = put_stands.stands_on (write_terms t) it mine s ans asks fit on.stands;
+        asked_for = ((λ r by is. waits_for it.task it.phase mine s r by asks is on.stands.knows), on.asked_for);
         sent_before = on.sent_before;
         sent = entered;
       }) none)
@@ -170,7 +192,9 @@ module _ (t : AttemptTerms) (c : Operations) (l0 told mine reads : List Made) (s
         of_attempt = on.of_attempt;
         stands_on = on.stands_on;
         reads_are = on.reads_are;
+        read_last = on.read_last;
         stands = put_stands.stands_on (write_terms t) it mine s ans asks fit on.stands;
+        asked_for = ((λ r by is. waits_for it.task it.phase mine s r by asks is on.stands.knows), on.asked_for);
         sent_before = λ sent. refl;
         sent = λ staging. refl;
       }) none)

@@ -3,9 +3,11 @@ use Rattle.std.proofs.Common.{◌≡◌, ◌≢◌, ℕ, zero, suc, ◌+◌, ◌
 use Rattle.std.specs.Option.{unwrap_or}
 use Rattle.std.proofs.lemmas.Bool.{ltb-false, ltb-true}
 use Rattle.std.proofs.lemmas.List.{append_assoc}
+use Rattle.cbt_base.specs.Ids.{attempt_number}
 use Rattle.cbt_model.specs.declared.events.Made.{Made}
 use Rattle.cbt_book.specs.Numbers.{Identity}
-use Rattle.cbt_book.specs.OwnLists.{Descends}
+use Rattle.cbt_book.specs.OwnLists.{Descends, Once}
+use Rattle.cbt_book.specs.Shown.{adds}
 use Rattle.cbt_book.specs.Spans.{past_of}
 use Rattle.cbt_book.specs.declared.clients.AttemptEnd.TheVariants as attempt_end
 use Rattle.cbt_book.specs.declared.clients.AttemptLog.{AttemptLog}
@@ -284,8 +286,9 @@ module _ (x : TxnTerms) (txn : Transaction) (before mine : List Made) (falls : D
           retried (subst (λ k. k ≤ start + x.plan.expiry) (sym newest) in_time)
           (subst (λ k. k < x.plan.tries) (ap length it.attempts_are ∙ length_snoc it.tries it.untold) left)
 
-      pub tries_on : ((start : ℕ) → TryFollows (attempt_terms x start (suc (length txn.attempts))) new.trying.it (mine ++ before) []) → Tries x new before mine
-      tries_on begun = record {
+      pub tries_on : ¬ Once (λ m _. adds m.step ≡ Some (attempt_number x.client x.number (suc (length txn.attempts)))) (mine ++ before)
+          → ((start : ℕ) → TryFollows (attempt_terms x start (suc (length txn.attempts))) new.trying.it (mine ++ before) []) → Tries x new before mine
+      tries_on unsent begun = record {
         tries = logs_now;
         untold = untold;
         tried = mine;
@@ -294,6 +297,7 @@ module _ (x : TxnTerms) (txn : Transaction) (before mine : List Made) (falls : D
         mine_is = refl;
         start_is = start_same ∙ it.start_is;
         now_is = subst (λ k. IsNewestTime k mine) (sym now_same) it.now_is;
+        unsent = subst (λ k. ¬ Once (λ m _. adds m.step ≡ Some (attempt_number x.client x.number (suc k))) (mine ++ before)) (sym longer) unsent;
         add_up = λ other begins. subst (λ k. Tried x k before mine logs_now) (sym (only other begins)) (subst (λ k. Tried x start before k logs_now) (sym it.mine_is) more);
         follows = λ other begins. subst (λ k. TryFollows (attempt_terms x other (suc k)) new.trying.it (mine ++ before) []) (sym longer) (begun other);
       }
@@ -312,6 +316,7 @@ tries_ended x txn before mine end it = record {
   mine_is = it.mine_is;
   start_is = it.start_is;
   now_is = it.now_is;
+  unsent = it.unsent;
   add_up = it.add_up;
   follows = it.follows;
 }
@@ -387,6 +392,7 @@ module _ (x : TxnTerms) (old new : Transaction) (before mine : List Made) (m : M
     mine_is = ap (λ k. m ∷ k) it.mine_is;
     start_is = starts;
     now_is = now;
+    unsent = it.unsent;
     add_up = λ start begins. it.add_up start (begins_less start m mine begins);
     follows = follows;
   }
@@ -394,8 +400,8 @@ module _ (x : TxnTerms) (old new : Transaction) (before mine : List Made) (m : M
 -- ---- the first try
 
 pub begins_tries : (x : TxnTerms) (txn : Transaction) (before : List Made) (untold : AttemptLog) → 0 < x.plan.tries → txn.attempts ≡ untold ∷ [] → txn.start ≡ None
-    → ((start : ℕ) → TryFollows (attempt_terms x start 1) txn.trying.it before []) → Tries x txn before []
-begins_tries x txn before untold some attempts unbegun begun = record {
+    → ¬ Once (λ m _. adds m.step ≡ Some (attempt_number x.client x.number 1)) before → ((start : ℕ) → TryFollows (attempt_terms x start 1) txn.trying.it before []) → Tries x txn before []
+begins_tries x txn before untold some attempts unbegun unsent begun = record {
   tries = [];
   untold = untold;
   tried = [];
@@ -404,6 +410,7 @@ begins_tries x txn before untold some attempts unbegun begun = record {
   mine_is = refl;
   start_is = unbegun;
   now_is = tt;
+  unsent = unsent;
   add_up = λ start begins. record { follow = tt; reach = refl; may = tt; few = some };
   follows = λ start begins. begun start;
 }

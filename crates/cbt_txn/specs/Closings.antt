@@ -1,12 +1,14 @@
 -- What a try is on its client's own list, and what that list has to show for the licence of its calls.
 use Rattle.std.specs.Prelude.{◌≡◌, ◌≢◌, ℕ, true, false, List, [], ◌∷◌, ◌++◌, Option, Some, None}
+use Rattle.cbt_model.specs.History.{commits}
 use Rattle.cbt_model.specs.declared.events.Made.{Made}
+use Rattle.cbt_model.specs.declared.steps.Reply.TheVariants as reply
 use Rattle.cbt_model.specs.declared.steps.Step.{Step}
 use Rattle.cbt_model.specs.declared.steps.Step.TheVariants as step
-use Rattle.cbt_book.specs.Closing.{MayClose, ThirdInVain}
+use Rattle.cbt_book.specs.Closing.{MayClose, ThirdInVain, drops, finishes as finishes_commit}
 use Rattle.cbt_book.specs.Numbers.{Identity, client_of}
 use Rattle.cbt_book.specs.OwnLists.{Each, Once}
-use Rattle.cbt_book.specs.Shown.{adds, decides}
+use Rattle.cbt_book.specs.Shown.{aborts, adds, decides}
 use Rattle.cbt_book.specs.Spans.{past_of}
 use Rattle.cbt_book.specs.declared.clients.AttemptEnd.{AttemptEnd}
 use Rattle.cbt_book.specs.declared.clients.AttemptEnd.TheVariants as attempt_end
@@ -54,12 +56,20 @@ log_of it =
       end = end_in it.closing;
     }
 
+-- a call after which a commit or a rollback goes on: it dropped no entry, made no own write public in vain, and found its entry
+pub record GoesOnAfter (m : Made) : Type 0 where
+  pub undropped : drops m.step ≡ None
+  pub published : finishes_commit m.step ≡ true → m.answer.reply ≢ reply.Failed
+  pub committed : (a : ℕ) → commits m.step ≡ Some a → m.answer.reply ≢ reply.NoEntry
+  pub aborted : (a : ℕ) → aborts m.step ≡ Some a → m.answer.reply ≢ reply.NoEntry
+  pub shown : (r a : ℕ) → m.step ≡ step.ReadEntry r a → (m.answer.reply ≢ reply.Failed) × (m.answer.reply ≢ reply.NoEntry)
+
 -- why a try is rolled back that has made these commits behind its operations: for these, or since the third commit was in vain
-pub data IsRolledBack (t : AttemptTerms) (it : Try) (commits ops : List Made) : Type 0 where
-  for_operations : commits ≡ [] → it.not_committed ≡ false → IsOver it.operations.work → is_kept t.plan.keep it.operations.work ≡ false
-      → ¬ Once (λ m _. decides m.step ≡ Some t.id) ops → IsRolledBack t it commits ops
-  for_commits : it.not_committed ≡ true → it.operations.work ≡ work.Done → t.plan.keep ≡ true → ThirdInVain t.id commits → AreCommits commits
-      → Each (λ m past. MayClose t.id past m.step) commits → IsRolledBack t it commits ops
+pub data IsRolledBack (t : AttemptTerms) (it : Try) (tried ops : List Made) : Type 0 where
+  for_operations : tried ≡ [] → it.not_committed ≡ false → IsOver it.operations.work → is_kept t.plan.keep it.operations.work ≡ false
+      → ¬ Once (λ m _. decides m.step ≡ Some t.id) ops → IsRolledBack t it tried ops
+  for_commits : it.not_committed ≡ true → it.operations.work ≡ work.Done → t.plan.keep ≡ true → ThirdInVain t.id tried → AreCommits tried
+      → Each (λ m past. MayClose t.id past m.step) tried → Each (λ m _. GoesOnAfter m) tried → IsRolledBack t it tried ops
 
 -- a transaction that ends with this last try may end so
 abbrev pub EndsWith : AttemptTerms → List Made → AttemptLog → TxnEnd → Type 0
@@ -77,8 +87,8 @@ pub data Closes (t : AttemptTerms) (it : Try) (l0 mine : List Made) : Closing �
   finishes : (f : Finish) (calls ops : List Made) → mine ≡ calls ++ ops → it.not_committed ≡ false → Follows t it.operations l0 ops
       → it.operations.work ≡ work.Done → t.plan.keep ≡ true → f.attempt ≡ t.id → finish_stands.StandsFor f calls → finish.end_of f ≡ None
       → Closes t it l0 mine (closing.Finish f)
-  undoes : (u : Undo) (own : List ℕ → Option Own) (calls commits ops : List Made) → mine ≡ (calls ++ commits) ++ ops → Follows t it.operations l0 ops
-      → IsRolledBack t it commits ops → u.attempt ≡ t.id → undo_ready.IsOf own (undo.task_of u) → undo_stands.StandsFor u calls → undo.end_of u ≡ None
+  undoes : (u : Undo) (own : List ℕ → Option Own) (calls tried ops : List Made) → mine ≡ (calls ++ tried) ++ ops → Follows t it.operations l0 ops
+      → IsRolledBack t it tried ops → u.attempt ≡ t.id → undo_ready.IsOf own (undo.task_of u) → undo_stands.StandsFor u calls → undo.end_of u ≡ None
       → Closes t it l0 mine (closing.Undo u)
   ended : (end : AttemptEnd) → end ≢ attempt_end.Stopped → AttemptFollows t (mine ++ l0) (past_of l0) (log_of it) → IsRight t (mine ++ l0) (log_of it) (outcome it)
       → Closes t it l0 mine (closing.Ended end)

@@ -8,6 +8,7 @@ use Rattle.cbt_model.specs.declared.documents.OpKind.{OpKind}
 use Rattle.cbt_model.specs.declared.documents.OpKind.TheVariants.{Insert, Replace, Remove}
 use Rattle.cbt_model.specs.declared.events.Made.{Made}
 use Rattle.cbt_model.specs.declared.steps.Reply.TheVariants as reply
+use Rattle.cbt_model.specs.declared.steps.Step.TheVariants as step
 use Rattle.cbt_book.specs.Calls.{GetCalls}
 use Rattle.cbt_book.specs.OwnLists.{Each, during}
 use Rattle.cbt_book.specs.ReadAt.{Reading, IsReadAt}
@@ -29,6 +30,8 @@ use Rattle.cbt_read.specs.declared.ends.GetEnd.TheVariants as get_end
 use Rattle.cbt_read.specs.Phases as get_phases
 use Rattle.cbt_read.specs.Standing as get
 use Rattle.cbt_read.specs.declared.gets.Get.{Get}
+use Rattle.cbt_read.specs.declared.phases.Phase.{Phase}
+use Rattle.cbt_read.specs.declared.phases.Phase.TheVariants as get_phase
 use Rattle.cbt_stage.specs.Phases as put_phases
 use Rattle.cbt_stage.specs.Rewrites.{needs_call, rewrite_of}
 use Rattle.cbt_stage.specs.Rewriting.{StandsOnce}
@@ -108,6 +111,16 @@ pub record ReadsFor (t : AttemptTerms) (c : Operations) (d : List ℕ) (write : 
   pub unwritten : noted c.attempt.writes d ≡ None
   pub unserved : agrees_last write.kind ((sofar t c.logs).read d) ≡ false
 
+-- the newest of these calls ended a read of document d so; those before it had left it open
+pub record EndsRead (d : List ℕ) (end : GetEnd) (calls : List Made) : Type 0 where
+  pub phase : Phase
+  pub newest : Made
+  pub older : List Made
+  pub calls_are : calls ≡ newest ∷ older
+  pub knows : get.Knows d phase older
+  pub asked : get_phases.step_for d phase ≡ Some newest.step
+  pub ended : get_phases.after phase newest.answer.place newest.answer.reply ≡ get_phase.Ended end
+
 -- a put stands on these readings, or on an earlier one
 pub record PutsOn (t : AttemptTerms) (c : Operations) (older : List Made) (it : Put) (mine reads : List Made) (o : Op) : Type 0 where
   pub asks : asked t c.logs o ≡ walk.Writes it.task.doc it.task.write.kind (Ok it.task.write.content)
@@ -115,7 +128,10 @@ pub record PutsOn (t : AttemptTerms) (c : Operations) (older : List Made) (it : 
   pub of_attempt : it.task.attempt ≡ t.id
   pub stands_on : StandsOn (reads ++ older) (sofar t c.logs) it.task.doc it.task.write.kind it.task.seen reads
   pub reads_are : (reads ≡ []) ⊎ (GetCalls it.task.doc reads × (agrees_last it.task.write.kind ((sofar t c.logs).read it.task.doc) ≡ false))
+  pub read_last : (reads ≡ []) ⊎ EndsRead it.task.doc (get_end.Value it.task.seen) reads
   pub stands : put.StandsFor (write_terms t) it mine
+  -- it asks for no entry but that of the attempt whose write waits in the document
+  pub asked_for : Each (λ m _. (r by : ℕ) → m.step ≡ step.ReadEntry r by → put.Waits it.task r by) mine
   -- the attempt's entry was sent before the put, or before it stages
   pub sent_before : it.task.sent ≡ true → is_some c.attempt.sent ≡ true
   pub sent : it.phase ≡ put_phase.Staging → is_some c.attempt.sent ≡ true
@@ -193,6 +209,7 @@ pub record Reads (t : AttemptTerms) (c : Operations) (l0 told calls : List Made)
   pub agrees : Agrees (sofar t c.logs) c.attempt (told ++ l0)
   pub reads : GetCalls d calls
   pub ends : get.EndsBy d end calls
+  pub last : EndsRead d end calls
   pub in_time : Each (λ m _. m.answer.now ≤ t.latest) calls
   -- a call that failed ended it
   pub failed : Each (λ m _. m.answer.reply ≡ reply.Failed → end ≡ get_end.CallFailed m.answer.place) calls

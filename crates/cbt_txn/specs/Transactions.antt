@@ -5,7 +5,8 @@ use Rattle.cbt_base.specs.Ids.{attempt_number}
 use Rattle.cbt_model.specs.declared.events.Made.{Made}
 use Rattle.cbt_model.specs.declared.steps.Step.{Step}
 use Rattle.cbt_book.specs.Numbers.{Identity}
-use Rattle.cbt_book.specs.OwnLists.{Each}
+use Rattle.cbt_book.specs.OwnLists.{Each, Once}
+use Rattle.cbt_book.specs.Shown.{adds}
 use Rattle.cbt_book.specs.Spans.{past_of}
 use Rattle.cbt_book.specs.declared.clients.AttemptLog.{AttemptLog}
 use Rattle.cbt_book.specs.declared.clients.TxnEnd.{TxnEnd}
@@ -78,6 +79,8 @@ pub record Tries (x : TxnTerms) (txn : Transaction) (before mine : List Made) : 
   pub mine_is : mine ≡ this ++ tried
   pub start_is : txn.start ≡ first_time mine
   pub now_is : IsNewestTime txn.newest mine
+  -- no call before that try adds its entry
+  pub unsent : ¬ Once (λ m _. adds m.step ≡ Some (attempt_number x.client x.number (suc (length tries)))) (tried ++ before)
   pub add_up : (start : ℕ) → BeginsAt start mine → Tried x start before tried tries
   pub follows : (start : ℕ) → BeginsAt start mine → TryFollows (attempt_terms x start (suc (length tries))) txn.trying.it (tried ++ before) this
 

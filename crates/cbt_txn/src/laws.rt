@@ -8,7 +8,8 @@ ghost use Rattle.cbt_book.specs.Licence.{MayTake};
 ghost use Rattle.cbt_book.specs.Numbers.{Identity};
 ghost use Rattle.cbt_book.specs.OwnLists.{Descends};
 ghost use Rattle.cbt_core.specs.Clients.{FollowsPlan};
-ghost use Rattle.cbt_core.specs.Stops.{WasStopped};
+ghost use Rattle.cbt_core.specs.Staying.{StaysAsShown};
+ghost use Rattle.cbt_core.specs.Stops.{LastHasCall, WasStopped};
 ghost use Rattle.cbt_core.specs.Walk.{AttemptTerms};
 ghost use Rattle.cbt_expr.specs.declared.plans.Op.{Op};
 ghost use Rattle.cbt_txn.specs.Bounds.{try_left};
@@ -68,4 +69,14 @@ pub fn clients_tell()
     // That is so only of a client that was stopped, or that asks for a call.
     ensures asks { (c : Client) (l : List Made) → StandsFor c l → Descends l → has_ended c ≡ false
         → clients.step_now c ≡ None → c.stopped ≡ true }
+{}
+
+/// A client that asks for a call and is then stopped had that call to make: its log says that it was
+/// stopped, and the last of its transactions has no other end by its calls, and asks for one. That is so
+/// where what its calls were shown stays so, as it does in every run of licensed actors.
+pub fn clients_have_calls()
+    ensures stopped { (c : Client) (l : List Made) (s : Step) → StandsFor c l → Descends l → clients.step_now c ≡ Some s
+        → WasStopped (client_log_of (record c { stopped = true })).txns }
+    ensures has_call { (c : Client) (l : List Made) (s : Step) → StandsFor c l → Descends l → StaysAsShown l → clients.step_now c ≡ Some s
+        → LastHasCall c.origin.actor c.origin.atrs l 0 1 c.origin.plan.txns (client_log_of (record c { stopped = true })).txns }
 {}

@@ -15,8 +15,8 @@ mod tries;
 pub use clients::Client;
 pub use keeping::{Terms, Trying};
 pub use laws::{
-    clients_tell, operations_are_licensed, steps_name_attempt, tries_are_licensed, tries_go_on,
-    tries_stay_bounded, tries_stop,
+    clients_have_calls, clients_tell, operations_are_licensed, steps_name_attempt,
+    tries_are_licensed, tries_go_on, tries_stay_bounded, tries_stop,
 };
 pub use operations::{Operations, Work};
 pub use origins::Origin;

@@ -1,6 +1,8 @@
-use Rattle.std.proofs.Common.{◌≡◌, ℕ, zero, suc, ◌+◌, ◌-◌, ◌<◌, ◌≤◌, ◌^◌, List, ◌∷◌, ◌++◌, [], length, slice_set, refl, sym, ap, ◌∙◌, subst, arith}
+use Rattle.std.proofs.Common.{◌≡◌, Some, ℕ, zero, suc, ◌+◌, ◌-◌, ◌<◌, ◌≤◌, ◌^◌, List, ◌∷◌, ◌++◌, [], length, slice_set, refl, sym, ap, ◌∙◌, subst, arith}
 use Rattle.cbt_base.specs.Ids.{attempt_number}
 use Rattle.cbt_logs.proofs.Snoc.{length_snoc}
+use Rattle.cbt_book.specs.OwnLists.{Once}
+use Rattle.cbt_book.specs.Shown.{adds}
 use Rattle.cbt_core.specs.Transactions.{attempt_terms}
 use Rattle.cbt_txn.specs.Closings.{IsNewTo, IsOf, TryFollows, TryMayGoOn, log_of}
 use Rattle.cbt_txn.specs.Bounds.{try_left}
@@ -44,14 +46,14 @@ returns-clause-follows c who x before mine under plan falls may it due in_time =
     ∙ ap (λ k. slice_set (old.attempts ++ c.untold.result ∷ []) k c.into_log.result) at
     ∙ ap (λ k. slice_set (old.attempts ++ c.untold.result ∷ []) (length old.attempts - 1) k) log
     ∙ told_before old.attempts c.untold.result (log_of old.trying.it) (some_attempt x old before mine falls it) in
+    let id = ap (λ k. attempt_number k x.number (suc (length old.attempts))) under.client
+    ∙ ap (λ k. attempt_number old.terms.client k (suc (length old.attempts))) under.number ∙ sym (id_is c) in
+    let new = subst (λ k. IsNewTo who k (mine ++ before)) (sym (id_is c)) (again_new who old (mine ++ before) may old.terms.small.0 old.terms.small.1 (small c)) in
     tries_on x old before mine falls it again _ c.untold.result attempts left
     (in_time_by x old before mine falls it again c.args.plan.now.expiry (ap (λ p. p.expiry) plan) in_time) refl refl
+    (subst (λ k. ¬ Once (λ m _. adds m.step ≡ Some k) (mine ++ before)) (sym id) new.unsent)
     (λ start. subst (λ (k : Trying). TryFollows (attempt_terms x start (suc (length old.attempts))) k.it (mine ++ before) []) (sym c.replace-ended.ensures.after)
-    (c.in_ok-it.ensures.follows who (attempt_terms x start (suc (length old.attempts))) (mine ++ before) plan
-    (ap (λ k. attempt_number k x.number (suc (length old.attempts))) under.client ∙ ap (λ k. attempt_number old.terms.client k (suc (length old.attempts))) under.number
-    ∙ sym (id_is c)) under.atrs (past_now x old before mine falls it) falls
-    (subst (λ k. IsNewTo who k (mine ++ before)) (sym (id_is c))
-    (again_new who old (mine ++ before) may old.terms.small.0 old.terms.small.1 (small c)))))
+    (c.in_ok-it.ensures.follows who (attempt_terms x start (suc (length old.attempts))) (mine ++ before) plan id under.atrs (past_now x old before mine falls it) falls new))
 
 pub returns-clause-licensed : goal.returns-clause-licensed
 returns-clause-licensed c who l may =
