@@ -14,8 +14,9 @@ fn main(rt: HostRuntime) -> Result<()> {
         if line.is_empty() || line.starts_with('#') {
             println!(rt; "{line}")?;
         } else {
-            let answer = rows::answer(rt.alloc(), line.as_str())?;
-            println!(rt; "{line} =>{answer}")?;
+            let mut told = String::new(rt.alloc());
+            rows::answer(rt.alloc(), &mut told, line.as_str())?;
+            println!(rt; "{line} =>{told}")?;
         }
     }
     Ok(())

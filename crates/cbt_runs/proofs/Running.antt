@@ -159,16 +159,16 @@ module _ {A : Type 0} (kind : ActorOf A) (case : Case) (book : Book) (workers wo
           (let begun = client_begun n plan at in
           let ran = worker_ran n begun.0 begun.1 in
           told n log.calls (LastHasCall n case.atrs (own_of book n) 0 1 plan.txns log.txns) begun.0 ran.is begun.1 ran.at
-          (promise.of_client n plan log begun.0 ran.is (own_of book n) at logged begun.1 ran.at ran.run was));
+          (promise.of_client n plan log begun.0 ran.is at logged begun.1 ran.at ran.run was));
       cleaner = λ n rounds log at logged was.
           (let begun = cleaner_begun n rounds at in
           let ran = worker_ran (length case.plans + n) begun.0 begun.1 in
           told (length case.plans + n) log.calls (AtLast (HasNext (cleaner_plan case n rounds) (own_of book (length case.plans + n))) log.rounds)
           begun.0 ran.is begun.1 ran.at
-          (promise.of_cleaner n rounds log begun.0 ran.is (own_of book (length case.plans + n)) at logged begun.1 ran.at ran.run was));
+          (promise.of_cleaner n rounds log begun.0 ran.is at logged begun.1 ran.at ran.run was));
       sweep = λ log logged.
           (let begun = sweep_begun log logged in
           let ran = sweep_ran begun.0 begun.1 in
-          promise.of_sweep log begun.0 ran.is (own_of book last) logged begun.1 ran.at ran.run
+          promise.of_sweep log begun.0 ran.is logged begun.1 ran.at ran.run
           (stops.never 1 begun.0 ran.is begun.1 ran.at (promise.sweep_runs begun.0 begun.1)));
     }

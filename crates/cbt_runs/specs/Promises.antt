@@ -12,7 +12,7 @@ use Rattle.cbt_book.specs.declared.book.Book.{Book}
 use Rattle.cbt_book.specs.declared.cleaners.CleanerLog.{CleanerLog}
 use Rattle.cbt_book.specs.declared.clients.ClientLog.{ClientLog}
 use Rattle.cbt_core.specs.Clients.{FollowsPlan}
-use Rattle.cbt_core.specs.Runs.{cleaner_plan, identity_of, sweeps}
+use Rattle.cbt_core.specs.Runs.{cleaner_plan, identity_of, own_of, sweeps}
 use Rattle.cbt_core.specs.Stops.{LastHasCall, WasStopped}
 use Rattle.cbt_core.specs.WriteSets.{numbered}
 use Rattle.cbt_core.specs.declared.case.Case.{Case}
@@ -55,21 +55,23 @@ pub record TellsStop {A : Type 0} (kind : ActorOf A) (stop : Option ℕ) (begun 
   pub counted : calls ≡ length l
   pub asked : StopReached kind.stands_for kind.step_now kind.same_origin kind.stopped_as stop begun now l → HasCall
 
--- no actor was begun stopped, and each log tells of a stop as it was
+-- no actor was begun stopped, and each log tells of a stop as it was, on the own list that the actor has in the history
 pub record PromiseStops {A : Type 0} (kind : ActorOf A) (case : Case) (book : Book) (workers worked sweep swept : List A) : Type 0 where
   pub workers_run : (n : ℕ) (begun : A) → numbered workers n ≡ Some begun → kind.is_stopped begun ≡ false
   pub sweep_runs : (begun : A) → numbered sweep 1 ≡ Some begun → kind.is_stopped begun ≡ false
-  pub of_client : (n : ℕ) (plan : ClientPlan) (log : ClientLog) (begun now : A) (l : List Made)
+  pub of_client : (n : ℕ) (plan : ClientPlan) (log : ClientLog) (begun now : A)
       → numbered case.plans n ≡ Some plan → numbered book.clients n ≡ Some log
       → numbered workers n ≡ Some begun → numbered worked n ≡ Some now
-      → HasRun kind begun now l → WasStopped log.txns
-      → TellsStop kind (stop_of case.stops n) begun now l log.calls (LastHasCall n case.atrs l 0 1 plan.txns log.txns)
-  pub of_cleaner : (n rounds : ℕ) (log : CleanerLog) (begun now : A) (l : List Made)
+      → HasRun kind begun now (own_of book n) → WasStopped log.txns
+      → TellsStop kind (stop_of case.stops n) begun now (own_of book n) log.calls
+      (LastHasCall n case.atrs (own_of book n) 0 1 plan.txns log.txns)
+  pub of_cleaner : (n rounds : ℕ) (log : CleanerLog) (begun now : A)
       → numbered case.rounds n ≡ Some rounds → numbered book.cleaners n ≡ Some log
       → numbered workers (length case.plans + n) ≡ Some begun → numbered worked (length case.plans + n) ≡ Some now
-      → HasRun kind begun now l → log.stopped ≡ true
-      → TellsStop kind (stop_of case.stops (length case.plans + n)) begun now l log.calls (AtLast (HasNext (cleaner_plan case n rounds) l) log.rounds)
-  pub of_sweep : (log : CleanerLog) (begun now : A) (l : List Made)
+      → HasRun kind begun now (own_of book (length case.plans + n)) → log.stopped ≡ true
+      → TellsStop kind (stop_of case.stops (length case.plans + n)) begun now (own_of book (length case.plans + n)) log.calls
+      (AtLast (HasNext (cleaner_plan case n rounds) (own_of book (length case.plans + n))) log.rounds)
+  pub of_sweep : (log : CleanerLog) (begun now : A)
       → numbered book.cleaners (suc (length case.rounds)) ≡ Some log
       → numbered sweep 1 ≡ Some begun → numbered swept 1 ≡ Some now
-      → HasRun kind begun now l → kind.is_stopped now ≡ false → log.stopped ≡ false
+      → HasRun kind begun now (own_of book (length case.plans + suc (length case.rounds))) → kind.is_stopped now ≡ false → log.stopped ≡ false

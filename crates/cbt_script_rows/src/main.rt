@@ -1,6 +1,6 @@
 //! Reads rows from standard input and answers each: which texts are scripts, which are refused, at
-//! which line and why, the canonical texts of what is taken, the cases of runs, reports of books written
-//! out, and reports and logs of runs that clients make.
+//! which line and why, the canonical texts of what is taken, the cases of runs, and reports of books
+//! written out.
 //!
 //! Empty lines and lines that begin `#` are copied out. Of every other line the first word says what
 //! is asked (`rows.rt`), and the rest is a script in one line (`notation.rt`).
@@ -8,11 +8,9 @@
 
 mod books;
 mod cases;
-mod logs;
 mod notation;
 mod reports;
 mod rows;
-mod runs;
 
 use anyhow::Result;
 

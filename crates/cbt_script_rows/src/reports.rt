@@ -10,9 +10,9 @@ use cbt_script::Script;
 use std::alloc::Global;
 
 /// The last stamp of an opening, and the most events, of the books that are written out.
-const LAST: u64 = 65_536;
+const LAST: u64 = 5;
 
-const MOST_EVENTS: usize = 1_000_000;
+const MOST_EVENTS: usize = 3;
 
 /// The report of a copy of the book of this name.
 pub fn report(alloc: Global, name: &str) -> Result<String> {
@@ -33,8 +33,8 @@ fn script_of(name: &str) -> &'static [u8] {
     }
 }
 
-/// The report of a book. Its clock and its history are small, as a report asks.
-pub fn written(alloc: Global, script: &Script, book: &Book) -> Result<String> {
+// Its clock and its history are small, as a report asks.
+fn written(alloc: Global, script: &Script, book: &Book) -> Result<String> {
     if book.kept.opening.last > LAST || book.kept.history.len() > MOST_EVENTS {
         return Ok("too large a book".to_string(alloc)?);
     }

@@ -1,11 +1,8 @@
 //! What is asked of a row, and its answer.
 
-ghost use Rattle.cbt_script.specs.Rules.{IsScript};
-
 use crate::cases::copied;
 use crate::notation::{bytes_of, in_one_line};
 use crate::reports::report;
-use crate::runs::{logged, reported};
 use anyhow::Result;
 use cbt_script::Script;
 use std::alloc::{AllocError, Global};
@@ -23,10 +20,6 @@ enum Asked {
     Opening,
     /// What a copy of its case holds.
     Case,
-    /// The report of its run, and how many calls each client made.
-    Run,
-    /// The logs of its clients.
-    Log,
 }
 
 /// The answer to a row.
@@ -37,8 +30,6 @@ pub fn answer(alloc: Global, row: &str) -> Result<String> {
         Some(("items", notation)) => told(alloc, notation, Asked::Items),
         Some(("opening", notation)) => told(alloc, notation, Asked::Opening),
         Some(("case", notation)) => told(alloc, notation, Asked::Case),
-        Some(("run", notation)) => told(alloc, notation, Asked::Run),
-        Some(("log", notation)) => told(alloc, notation, Asked::Log),
         Some(("report", name)) => report(alloc, name),
         _ => Ok("no such row".to_string(alloc)?),
     }
@@ -53,9 +44,7 @@ fn told(alloc: Global, notation: &str, asked: Asked) -> Result<String> {
     }
 }
 
-fn tell(alloc: Global, script: &Script, asked: Asked) -> Result<String>
-    requires { IsScript script.now }
-{
+fn tell(alloc: Global, script: &Script, asked: Asked) -> Result<String> {
     match asked {
         Asked::Taken => Ok("taken".to_string(alloc)?),
         Asked::Text => {
@@ -68,8 +57,6 @@ fn tell(alloc: Global, script: &Script, asked: Asked) -> Result<String>
         }
         Asked::Opening => opening(alloc, script),
         Asked::Case => copied(alloc, script),
-        Asked::Run => reported(alloc, script),
-        Asked::Log => logged(alloc, script),
     }
 }
 

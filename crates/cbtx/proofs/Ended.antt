@@ -8,8 +8,7 @@ use Rattle.cbt_script.specs.declared.cause.Bad.{Bad}
 use Rattle.cbt_script.specs.declared.cause.ScriptFault.{ScriptFault}
 use Rattle.cbt_script.specs.declared.cause.ScriptFault.TheVariants as fault
 use Rattle.cbt_script.specs.declared.script.Script.{Script}
-use Rattle.cbtx.specs.OneReplace.{Runs}
-use Rattle.cbtx.specs.Statuses.{IsCut, IsCutOff, is_bad, is_not_built, Refuses, is_report, is_refusal, bad_line, not_built_line}
+use Rattle.cbtx.specs.Statuses.{IsCut, IsCutOff, Refuses, is_report, bad_line}
 
 pub same_some : {A : Type 0} (x y : A) → Some x ≡ Some y → x ≡ y
 same_some x y is = cc
@@ -32,27 +31,17 @@ bad_is input bytes bad same told =
 module _ (left left' : Option (List ℕ)) (bytes : List ℕ) (read : ReadWhole left left' bytes) where
   -- the line on the first bad line is due
   abbrev pub refuses_bad : (bad : Bad) → script_of bytes ≡ refused_by bad → Refuses left left' (bad_line bad)
-  refuses_bad bad is = record { input = bytes; read = read; refusal = is_bad bad is refl }
+  refuses_bad bad is = record { input = bytes; read = read; bad = bad; is = is; line = refl }
 
-  -- the line on a script that cannot run yet is due
-  abbrev pub refuses_script : (s : Script) → script_of bytes ≡ Ok s → (Runs s → ⊥) → Refuses left left' not_built_line
-  refuses_script s is cannot = record { input = bytes; read = read; refusal = is_not_built s is cannot refl }
-
-  module _ (taken taken' : Option (List ℕ)) (faults faults' : ℕ) (s : Script) (is : script_of bytes ≡ Ok s) where
-    -- the sink failed while the report or the line on a script that cannot run yet was written
-    pub cut_off : (script : Option Script) (book : Option Book) → is_some script ≡ is_some book → ((t : Script) → script ≡ Some t → t ≡ s)
-        → ((b : Book) → book ≡ Some b → IsCut taken taken' faults faults' (report_text s b))
-        → (book ≡ None → (Runs s → ⊥) × IsCut taken taken' faults faults' not_built_line)
-        → IsCutOff true left left' taken taken' faults faults' script book
-    cut_off (Some t) (Some b) together same report refusal = record {
-      text = report_text t b;
-      due = is_report refl t b refl refl refl;
-      cut = subst (λ x. IsCut taken taken' faults faults' (report_text x b)) (sym (same t refl)) (report b refl);
-    }
-    cut_off None None together same report refusal = record {
-      text = not_built_line;
-      due = is_refusal refl refl (refuses_script s is (refusal refl).0);
-      cut = (refusal refl).1;
-    }
-    cut_off (Some t) None together same report refusal = absurd (cc)
-    cut_off None (Some b) together same report refusal = absurd (cc)
+-- the sink failed while the report was written
+pub cut_off : (left left' taken taken' : Option (List ℕ)) (faults faults' : ℕ) (s : Script) (script : Option Script) (book : Option Book)
+    → is_some book ≡ true → is_some script ≡ is_some book → ((t : Script) → script ≡ Some t → t ≡ s)
+    → ((b : Book) → book ≡ Some b → IsCut taken taken' faults faults' (report_text s b))
+    → IsCutOff true left left' taken taken' faults faults' script book
+cut_off left left' taken taken' faults faults' s (Some t) (Some b) there together same report = record {
+  text = report_text t b;
+  due = is_report refl t b refl refl refl;
+  cut = subst (λ x. IsCut taken taken' faults faults' (report_text x b)) (sym (same t refl)) (report b refl);
+}
+cut_off left left' taken taken' faults faults' s None (Some b) there together same report = absurd (cc)
+cut_off left left' taken taken' faults faults' s script None there together same report = absurd (cc)

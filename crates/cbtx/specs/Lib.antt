@@ -1,8 +1,7 @@
-pub mod OneReplace
-pub mod Path
-pub mod Replacing
-pub mod Words
-pub mod Statuses
-pub mod Committed
+pub mod Adding
+pub mod Cases
+pub mod Crew
 pub mod Headline
-pub mod Logs
+pub mod Statuses
+pub mod Told
+pub mod Words

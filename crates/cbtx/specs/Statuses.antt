@@ -10,7 +10,6 @@ use Rattle.cbt_script.specs.Causes.{cause_word}
 use Rattle.cbt_script.specs.Reading.{script_of}
 use Rattle.cbt_script.specs.declared.cause.Bad.{Bad}
 use Rattle.cbt_script.specs.declared.cause.ScriptFault.TheVariants as fault
-use Rattle.cbtx.specs.OneReplace.{Runs}
 
 -- the most bytes that an input has
 abbrev pub max_input : ℕ
@@ -20,10 +19,6 @@ max_input = 4194304
 abbrev pub bad_line : Bad → List ℕ
 bad_line bad = codes "script refused: line " ++ decimal bad.line ++ codes ": " ++ cause_word bad.why ++ codes "\n"
 
--- what is written where it is a script that cannot run yet
-abbrev pub not_built_line : List ℕ
-not_built_line = codes "script refused: NotBuilt\n"
-
 -- what is written where the words are no command
 abbrev pub usage_line : List ℕ
 usage_line = codes "usage: cbtx sim [--history] | run [--history] | gen --seed N [--clients N] [--accounts N] [--transfers N] [--sim]\n"
@@ -32,16 +27,13 @@ usage_line = codes "usage: cbtx sim [--history] | run [--history] | gen --seed N
 abbrev pub IsWritten : ℕ → ℕ → Type 0
 IsWritten status whole = (status ≡ whole) ⊎ (status ≡ 4)
 
--- the line on an input that is no script, or on one that cannot run yet
-pub data IsRefusal (input text : List ℕ) : Type 0 where
-  is_bad : (bad : Bad) → script_of input ≡ Err (fault.Bad bad) → text ≡ bad_line bad → IsRefusal input text
-  is_not_built : (script : Script) → script_of input ≡ Ok script → (Runs script → ⊥) → text ≡ not_built_line → IsRefusal input text
-
--- the input was read to its end and refused, and this text is the line on it
+-- the input was read to its end and is no script, and this text is the line on it
 pub record Refuses (left left' : Option (List ℕ)) (text : List ℕ) : Type 0 where
   pub input : List ℕ
   pub read : ReadWhole left left' input
-  pub refusal : IsRefusal input text
+  pub bad : Bad
+  pub is : script_of input ≡ Err (fault.Bad bad)
+  pub line : text ≡ bad_line bad
 
 -- the line on a refused input was written
 pub record IsRefused (left left' taken taken' : Option (List ℕ)) : Type 0 where

@@ -2,16 +2,18 @@
 //! what happened.
 #![tactic(auto)]
 
-mod lists;
-mod one_replace;
-mod replace;
-mod replacement;
-mod simulation;
+mod crew;
+mod headline;
+#[cfg(test)]
+mod logs;
+mod run;
 mod still;
 mod system_clock;
 #[cfg(test)]
 mod tests;
+mod told;
 mod words;
+mod workers;
 
 use cbt_base::{List, NoMemory, Text};
 use cbt_streams::{StdSink, StdSource};

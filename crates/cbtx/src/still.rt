@@ -1,40 +1,41 @@
 //! The program as one call over any source, sink and clock.
 
-ghost use Rattle.std.specs.Prelude.{◌≡◌, ◌<◌, ◌⊎◌, false, true, None, is_some, IfOk};
+ghost use Rattle.std.specs.Prelude.{◌≡◌, ◌<◌, ◌≤◌, ◌^◌, ◌⊎◌, false, true, None, Some, length, is_some, IfOk};
 ghost use Rattle.std.specs.Io.KnownBytes.{Appends, Keeps};
 ghost use Rattle.cbt_streams.specs.Causes.{Rose};
-ghost use Rattle.cbt_core.specs.Laws.{NeverBoth, CommitsOnce, AtMostOnce};
-ghost use Rattle.cbt_report.specs.Report.{report_text};
-ghost use Rattle.cbt_script.specs.Opening.{opening_of};
-ghost use Rattle.cbtx.specs.Headline.{IsInTurn, IsLegalFor, IsRunOf, HasCommitted, ShowsTable, WhereRan};
 ghost use Rattle.cbt_streams.specs.Streams.{ReadPast, ReadUpTo};
-ghost use Rattle.cbtx.specs.OneReplace.{Runs};
-ghost use Rattle.cbtx.specs.Statuses.{IsCut, IsCutOff, IsRefused, IsReported, IsScriptRead, IsWritten, bad_line, max_input, not_built_line, usage_line};
+ghost use Rattle.cbt_core.specs.Invariant.{CommitsOwnWrites};
+ghost use Rattle.cbt_core.specs.Laws.{NeverBoth, CommitsOnce, NoCommitDecided, DocumentsCommitted, ContendedByOthers, MovedByOther, BlockedByAnother, NoUpdateLost, AtMostOnce, PassesLeaveNothing, AttemptsLeaveNothing, LostByEviction};
+ghost use Rattle.cbt_core.specs.Right.{AnswersRight, MomentsRise};
+ghost use Rattle.cbt_core.specs.Runs.{AreLicensed, IsLegalRun, LogsFollow};
+ghost use Rattle.cbt_core.specs.Stops.{CleanersComplete, ClientsComplete, StopsKept};
+ghost use Rattle.cbt_report.specs.Report.{report_text};
+ghost use Rattle.cbt_script.specs.Rules.{IsScript};
+ghost use Rattle.cbtx.specs.Cases.{case_of};
+ghost use Rattle.cbtx.specs.Headline.{IsInTurns, IsRunOf, ReadsBy, WhereRan};
+ghost use Rattle.cbtx.specs.Statuses.{IsCut, IsCutOff, IsRefused, IsReported, IsScriptRead, IsWritten, bad_line, max_input, usage_line};
 ghost use Rattle.cbtx.specs.Words.{is_sim};
 
-use crate::one_replace::one_replace;
-use crate::simulation::simulate;
+use crate::headline::runs_are_right;
+use crate::run::run_script;
 use crate::words::{USAGE, is_sim};
-use cbt_base::{Clock, Map, NoMemory, Text};
+use cbt_base::{Clock, NoMemory, Text};
 use cbt_book::Book;
-use cbt_expr::{EvalFault, eval};
+use cbt_core::completeness;
 use cbt_lex::push_number;
 use cbt_report::report_of;
-use cbt_script::{Bad, Script, ScriptFault};
+use cbt_script::{Bad, Script, ScriptFault, scripts_keep_rules};
 use cbt_streams::{ReadFault, Sink, Source, read_all, write_all};
 use std::alloc::Global;
 
 /// The most bytes that an input has.
 const MAX_INPUT: usize = 4_194_304;
 
-/// What is written where the input is a script that cannot run yet.
-const NOT_BUILT: &str = "script refused: NotBuilt\n";
-
 /// How a run ended.
 ///
 /// The status is 0 where the input was read to its end and all was written, 1 where the input is no
-/// script or one that cannot run yet, 2 where the words are no command, 3 where the source failed, 4
-/// where the sink failed, 5 where memory ran out, and 6 where the input has more than 4,194,304 bytes.
+/// script, 2 where the words are no command, 3 where the source failed, 4 where the sink failed, 5 where
+/// memory ran out, and 6 where the input has more than 4,194,304 bytes.
 #[derive(Drop)]
 pub struct Ran {
     pub status: u8,
@@ -75,8 +76,7 @@ pub fn still<S: Source, K: Sink, C: Clock>(
     // At status 0 a script ran, and the report on the book of its run was written whole.
     ensures reported { result.status ≡ 0 → IsReported (K.taken out.old) (K.taken out.new) result.script result.book }
 
-    // At status 1 the input is no script, and its first bad line and the cause were written; or it is a script that cannot run
-    // yet. At status 6, and only there, more bytes were taken than an input may have, and nothing was written.
+    // At status 1 the input is no script, and its first bad line and the cause were written. At status 6, and only there, more bytes were taken than an input may have, and nothing was written.
     ensures refused { result.status ≡ 1 → IsRefused (S.left src.old) (S.left src.new) (K.taken out.old) (K.taken out.new) }
     ensures too_long { result.status ≡ 6 → ReadPast (S.left src.old) (S.left src.new) max_input × Keeps (K.taken out.old) (K.taken out.new) }
     ensures within { (result.status ≡ 6 → ⊥) → ReadUpTo (S.left src.old) (S.left src.new) max_input }
@@ -96,22 +96,49 @@ pub fn still<S: Source, K: Sink, C: Clock>(
     ensures no_book { ((0 < result.status) × (result.status < 4)) ⊎ (result.status ≡ 6) → result.book ≡ None }
     ensures no_words { is_sim words.now ≡ false → result.book ≡ None }
 
-    // The script is the one that was read and one that runs, and the book is of its run: a legal history from the script's opening, its
-    // actor's calls in turn, and its log.
-    ensures runs { WhereRan result (λ script book. Runs script) }
+    // The script is the one that was read, and the book is of its run: a legal history from the script's opening, by its clients,
+    // cleaners and sweep alone, of licensed steps, with a log of each that follows its plan.
     ensures script_read { WhereRan result (λ script book. IsScriptRead (S.left src.old) (S.left src.new) script) }
-    ensures opening { WhereRan result (λ script book. book.kept.opening ≡ opening_of script.docs) }
-    ensures legal { WhereRan result (λ script book. IsLegalFor script book.kept) }
-    ensures in_turn { WhereRan result (λ script book. IsInTurn book.kept) }
-    ensures log { WhereRan result (λ script book. HasCommitted book) }
+    ensures legal { WhereRan result (λ script book. IsLegalRun (case_of script) book) }
+    ensures licensed { WhereRan result (λ script book. AreLicensed (case_of script) book) }
+    ensures follow { WhereRan result (λ script book. LogsFollow (case_of script) book) }
+    ensures in_turns { WhereRan result (IsInTurns result.status) }
+    ensures readings { WhereRan result (ReadsBy (C.due clock)) }
 
-    // In this history no attempt both commits and is rolled back, and none commits twice. At most one attempt of a transaction commits,
-    // and the log tells whether one does, and where. At every moment each document resolves to what the committed write sets make of it.
+    // No actor made more calls than its stop names. Where all found memory, which status 5 alone denies, one was stopped only there, with
+    // a next call; all others began and ended each of their transactions and rounds.
+    ensures stops { (result.status ≡ 5 → ⊥) → WhereRan result (λ script book. StopsKept (case_of script) book) }
+    ensures clients_complete { (result.status ≡ 5 → ⊥) → WhereRan result (λ script book. ClientsComplete (case_of script) book) }
+    ensures cleaners_complete { (result.status ≡ 5 → ⊥) → WhereRan result (λ script book. CleanersComplete (case_of script) book) }
+
+    // No attempt both commits and is rolled back, none commits twice, and none is answered that its entry is decided when it commits. At
+    // most one attempt of a transaction commits, and the log tells whether one does, and where.
     ensures never_both { WhereRan result (λ script book. NeverBoth book.kept.opening book.kept.history) }
     ensures commits_once { WhereRan result (λ script book. CommitsOnce book.kept.opening book.kept.history) }
+    ensures no_commit_decided { WhereRan result (λ script book. NoCommitDecided book.kept.opening book.kept.history) }
     ensures at_most_once { WhereRan result (λ script book. AtMostOnce book) }
-    ensures documents { WhereRan result (λ script book. ShowsTable script book) }
+
+    // At every moment each document resolves to what the committed write sets make of it, and a commit lists just the own writes.
+    ensures documents { WhereRan result (λ script book. DocumentsCommitted (case_of script) book) }
+    ensures own_writes { WhereRan result (λ script book. CommitsOwnWrites (case_of script) book) }
+
+    // Each answer about a document is right at one moment of its operation, a client's moments rise, and no update is lost. Who was
+    // contended, moved or blocked was so by others.
+    ensures answers { WhereRan result (λ script book. AnswersRight (case_of script) book) }
+    ensures moments { WhereRan result (λ script book. MomentsRise book) }
+    ensures no_update_lost { WhereRan result (λ script book. NoUpdateLost (case_of script) book) }
+    ensures contended { WhereRan result (λ script book. ContendedByOthers (case_of script) book) }
+    ensures moved { WhereRan result (λ script book. MovedByOther (case_of script) book) }
+    ensures blocked { WhereRan result (λ script book. BlockedByAnother (case_of script) book) }
+
+    // A pass that ended Ok leaves nothing of the attempts that it covered, and an attempt that has ended nothing of itself; an entry is
+    // lost by an eviction alone.
+    ensures passes { WhereRan result (λ script book. PassesLeaveNothing book) }
+    ensures attempts { WhereRan result (λ script book. AttemptsLeaveNothing book) }
+    ensures entries_lost { WhereRan result (λ script book. LostByEviction book) }
 {
+    runs_are_right();
+    completeness();
     if is_sim(words) {
         sim(alloc, src, out, clock)
     } else {
@@ -133,10 +160,13 @@ fn sim<S: Source, K: Sink, C: Clock>(alloc: Global, src: &mut S, out: &mut K, cl
     ensures statuses { result.status < 7 }
     ensures together { is_some result.script ≡ is_some result.book }
     ensures no_book { ((0 < result.status) × (result.status < 4)) ⊎ (result.status ≡ 6) → result.book ≡ None }
-    ensures runs { WhereRan result (λ script book. Runs script) }
     ensures script_read { WhereRan result (λ script book. IsScriptRead (S.left src.old) (S.left src.new) script) }
-    ensures run { WhereRan result (λ script book. IsRunOf script book) }
+    ensures run { WhereRan result IsRunOf }
+    ensures stops { (result.status ≡ 5 → ⊥) → WhereRan result (λ script book. StopsKept (case_of script) book) }
+    ensures in_turns { WhereRan result (IsInTurns result.status) }
+    ensures readings { WhereRan result (ReadsBy (C.due clock)) }
 {
+    scripts_keep_rules();
     let bytes = match read_all(alloc, src, MAX_INPUT) {
         Ok(bytes) => bytes,
         Err(ReadFault::NoMemory) => return Ran::ended(5),
@@ -150,55 +180,50 @@ fn sim<S: Source, K: Sink, C: Clock>(alloc: Global, src: &mut S, out: &mut K, cl
     }
 }
 
-// Lets a script run and writes the report, or says that it cannot run yet.
+// Lets a script run and writes the report.
 fn run<K: Sink, C: Clock>(alloc: Global, out: &mut K, script: Script, clock: C) -> Ran
-    ensures no_others { (result.status ≡ 0) ⊎ (result.status ≡ 1) ⊎ (result.status ≡ 4) ⊎ (result.status ≡ 5) }
+    requires rules { IsScript script }
+    ensures no_others { (result.status ≡ 0) ⊎ (result.status ≡ 4) ⊎ (result.status ≡ 5) }
     ensures reported { result.status ≡ 0 → IsReported (K.taken out.old) (K.taken out.new) result.script result.book }
-    ensures refused { result.status ≡ 1 → (Runs script → ⊥) × Appends (K.taken out.old) (K.taken out.new) not_built_line }
-    ensures report_cut { result.status ≡ 4 → (book : Book) → result.book ≡ Some book
+    ensures told { result.status ≡ 4 → is_some result.book ≡ true }
+    ensures cut { result.status ≡ 4 → (book : Book) → result.book ≡ Some book
         → IsCut (K.taken out.old) (K.taken out.new) (K.faults out.old) (K.faults out.new) (report_text script book) }
-    ensures refusal_cut { result.status ≡ 4 → result.book ≡ None
-        → (Runs script → ⊥) × IsCut (K.taken out.old) (K.taken out.new) (K.faults out.old) (K.faults out.new) not_built_line }
     ensures no_memory { result.status ≡ 5 → Keeps (K.taken out.old) (K.taken out.new) }
     ensures together { is_some result.script ≡ is_some result.book }
-    ensures no_book { result.status ≡ 1 → result.book ≡ None }
     ensures same { (s : Script) → result.script ≡ Some s → s ≡ script }
-    ensures runs { WhereRan result (λ script book. Runs script) }
-    ensures run { WhereRan result (λ script book. IsRunOf script book) }
+    ensures run { WhereRan result IsRunOf }
+    ensures stops { (result.status ≡ 5 → ⊥) → WhereRan result (λ script book. StopsKept (case_of script) book) }
+    ensures in_turns { WhereRan result (IsInTurns result.status) }
+    ensures readings { WhereRan result (ReadsBy (C.due clock)) }
 {
-    let Some(plan) = one_replace(&script) else {
-        return Ran::ended(written(out, NOT_BUILT, 1));
-    };
-    let body = match eval(alloc, plan.value, &Map::new(alloc)) {
-        Ok(body) => body,
-        Err(EvalFault::BadValue { .. }) => return Ran::ended(written(out, NOT_BUILT, 1)),
-        Err(EvalFault::NoMemory) => return Ran::ended(5),
-    };
-    let Ok(book) = simulate(alloc, &script, plan, &body, clock) else {
+    let Ok(ran) = run_script(alloc, &script, clock) else {
         return Ran::ended(5);
     };
-    report(alloc, out, script, book)
-}
-
-// Writes the report on a run.
-fn report<K: Sink>(alloc: Global, out: &mut K, script: Script, book: Book) -> Ran
-    requires runs { Runs script }
-    requires run { IsRunOf script book }
-    ensures no_others { (result.status ≡ 0) ⊎ (result.status ≡ 4) ⊎ (result.status ≡ 5) }
-    ensures script { result.script ≡ Some script }
-    ensures book { result.book ≡ Some book }
-    ensures reported { result.status ≡ 0 → Appends (K.taken out.old) (K.taken out.new) (report_text script book) }
-    ensures cut { result.status ≡ 4 → IsCut (K.taken out.old) (K.taken out.new) (K.faults out.old) (K.faults out.new) (report_text script book) }
-    ensures no_memory { result.status ≡ 5 → Keeps (K.taken out.old) (K.taken out.new) }
-{
-    let status = match report_of(alloc, &script, &book) {
-        Ok(text) => written(out, text.as_str(), 0),
-        Err(_) => 5,
-    };
+    let status = report(alloc, out, &script, &ran.book, ran.refused);
     Ran {
         status,
-        book: Some(book),
+        book: Some(ran.book),
         script: Some(script),
+    }
+}
+
+// Writes the report on a run, where all its actors found memory.
+fn report<K: Sink>(alloc: Global, out: &mut K, script: &Script, book: &Book, refused: bool) -> u8
+    requires rules { IsScript script.now }
+    requires legal { IsLegalRun (case_of script.now) book.now }
+    requires short { length book.now.kept.history ≤ 2 ^ 62 }
+    ensures no_others { (result ≡ 0) ⊎ (result ≡ 4) ⊎ (result ≡ 5) }
+    ensures refused { refused ≡ true → result ≡ 5 }
+    ensures whole { result ≡ 0 → Appends (K.taken out.old) (K.taken out.new) (report_text script.now book.now) }
+    ensures cut { result ≡ 4 → IsCut (K.taken out.old) (K.taken out.new) (K.faults out.old) (K.faults out.new) (report_text script.now book.now) }
+    ensures no_memory { result ≡ 5 → Keeps (K.taken out.old) (K.taken out.new) }
+{
+    if refused {
+        return 5;
+    }
+    match report_of(alloc, script, book) {
+        Ok(text) => written(out, text.as_str(), 0),
+        Err(_) => 5,
     }
 }
 

@@ -1,5 +1,6 @@
-//! What no case of `scripts/` shows: the events of a run, and streams that fail.
+//! What no case of `scripts/` shows: the events and logs of runs, and streams that fail.
 
+use crate::logs::logged;
 use crate::still::{Ran, still};
 use cbt_base::{List, NoMemory, StepClock, Text};
 use cbt_model::{Event, Fate, Step};
@@ -12,6 +13,41 @@ const ONE_REPLACE: &[u8] =
 
 const REPORT: &[u8] =
     b"history 6\ncommitted 1\ntxn c1 1 committed\ndoc a {\"n\":2}\nstaged 0\ndead 0\nentries 0\n";
+
+/// Scripts, and the logs of their clients: each try with the places of its calls, from the first to one
+/// past the last, and each operation that was answered. Calls of others lie between. An operation that came
+/// back late or was cut off is not told, and one without a call lies where the one before it ended.
+const LOGS: [(&[u8], &str); 8] = [
+    (
+        b"clock 1000 1\ndoc a {\"n\":1}\nclient c1\nbegin\nreplace a {\"n\":2}\ncommit\n",
+        "logs 1.1: 0-6 (1 0-3)",
+    ),
+    (
+        b"clock 1000 1\ndoc a {\"n\":0}\nclient c1\nbegin\nget a as x\nreplace a {\"n\":@x.n+1}\ncommit\nclient c2\nbegin\nget a as x\nreplace a {\"n\":@x.n+1}\ncommit\norder c1 c2 c1* c2*\n",
+        "logs 1.1: 0-7 (1 0-1) (2 2-4) 2.1: 1-11 (1 1-2) (2 7-9) 11-17 (1 11-12) (2 12-14)",
+    ),
+    (
+        b"clock 1000 1\ndoc a {\"n\":1}\nclient c1\nbegin\nneed 1 == 1\nget a as x\nneed some x\nreplace a {\"n\":@x.n+1}\nget a as y\nremove a\ncommit\n",
+        "logs 1.1: 0-7 (1 0-0) (2 0-1) (3 1-1) (4 1-3) (5 3-3) (6 3-4)",
+    ),
+    (
+        b"clock 1000 1\ndoc a {\"n\":1}\nclient c1\nbegin\nget a as x\nreplace a {\"n\":2}\ncommit\norder c1*2 +20000 c1*\n",
+        "logs 1.1: 0-6 (1 0-1)",
+    ),
+    (
+        b"clock 1000 1\ndoc a {\"n\":1}\nclient c1\nbegin\nget a as x\nreplace a {\"n\":2}\ncommit\nstop c1 2\n",
+        "logs 1.1: 0-2 (1 0-1)",
+    ),
+    (
+        b"clock 1000 1\ndoc a {\"n\":1}\nclient c1\nbegin\nreplace a {\"n\":2}\ncommit\nlost c1 4\nlost c1 6\nlost c1 8\n",
+        "logs 1.1: 0-12 (1 0-3) 12-18 (1 12-15)",
+    ),
+    (
+        b"clock 1000 1\ndoc a {\"n\":1}\nclient c1\nbegin\nreplace a {\"n\":2}\ncommit\nbegin\ncommit\nbegin\nneed 1 == 2\ncommit\nbegin\nget a as x\ncommit\n",
+        "logs 1.1: 0-6 (1 0-3) 1.2: 6-6 1.3: 6-6 (1 6-6) 1.4: 6-7 (1 6-7)",
+    ),
+    (b"clock 1000 1\nclient c1\n", "logs"),
+];
 
 // What a run left, and what it wrote.
 #[derive(Drop)]
@@ -92,5 +128,15 @@ fn stream_faults(rt: HostRuntime) -> Result<(), Fail> {
     assert_eq!(rt; seen.written.len(), 0);
     let book = seen.ran.book.as_ref().expect(&rt, "a book");
     assert_eq!(rt; book.kept.history.len(), 6);
+    Ok(())
+}
+
+#[test]
+fn logs(rt: HostRuntime) -> Result<(), Fail> {
+    for (script, told) in LOGS {
+        let seen = run(rt.alloc(), &["sim"], script, &[], &[])?;
+        let book = seen.ran.book.as_ref().expect(&rt, "a book");
+        assert_eq!(rt; logged(rt.alloc(), &book.clients)?.as_str(), told);
+    }
     Ok(())
 }

@@ -1,22 +1,18 @@
 use Rattle.std.proofs.Common.{refl, sym, ◌∙◌}
-use Rattle.cbtx.specs.Statuses.{is_refusal, bad_line, not_built_line}
-use Rattle.cbtx.proofs.Ended.{read_is, bad_is, refuses_bad, refuses_script, cut_off}
+use Rattle.cbtx.specs.Statuses.{is_refusal, bad_line}
+use Rattle.cbtx.proofs.Ended.{read_is, bad_is, refuses_bad, cut_off}
 use Rattle.cbtx.proofs.still.sim.Goals as goal
 
-pub returns-in-Ok-read-clause-refused : goal.returns-in-Ok-read-clause-refused
-returns-in-Ok-read-clause-refused g c one =
-    let is = read_is c.as_slice.result.now c.in-Ok.bytes c.in-Ok-read.script c.as_slice.ensures c.in-Ok-read.ensures.answer in
-    record {
-      text = not_built_line;
-      refused = refuses_script _ _ c.in-Ok.bytes c.in-Ok.ensures.whole c.in-Ok-read.script is (c.run.ensures.refused one).0;
-      written = (c.run.ensures.refused one).1;
-    }
+pub run-requires : goal.run-requires
+run-requires g c = record {
+  rules = c.scripts_keep_rules.ensures c.in-Ok.bytes c.in-Ok-read.script
+      (read_is c.as_slice.result.now c.in-Ok.bytes c.in-Ok-read.script c.as_slice.ensures c.in-Ok-read.ensures.answer);
+}
 
 pub returns-in-Ok-read-clause-write_failed : goal.returns-in-Ok-read-clause-write_failed
 returns-in-Ok-read-clause-write_failed g c four =
-    let is = read_is c.as_slice.result.now c.in-Ok.bytes c.in-Ok-read.script c.as_slice.ensures c.in-Ok-read.ensures.answer in
-    cut_off _ _ c.in-Ok.bytes c.in-Ok.ensures.whole _ _ _ _ c.in-Ok-read.script is c.run.result.script c.run.result.book c.run.ensures.together c.run.ensures.same
-    (c.run.ensures.report_cut four) (c.run.ensures.refusal_cut four)
+    cut_off _ _ _ _ _ _ c.in-Ok-read.script c.run.result.script c.run.result.book
+    (c.run.ensures.told four) c.run.ensures.together c.run.ensures.same (c.run.ensures.cut four)
 
 pub returns-in-Err-Bad-clause-refused : goal.returns-in-Err-Bad-clause-refused
 returns-in-Err-Bad-clause-refused g c one =

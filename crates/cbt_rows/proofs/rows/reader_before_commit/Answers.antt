@@ -1,5 +1,0 @@
-use Rattle.cbt_rows.proofs.ReaderBeforeCommitTrial as trial
-use Rattle.cbt_rows.proofs.rows.reader_before_commit.Goals as goal
-
-pub returns : goal.returns
-returns c = record { fresh = trial.fresh; legal = trial.legal; licensed = trial.licensed; follow = trial.follow; kept = trial.stops_kept; before_commit = trial.before-commit; at_moment = trial.at-moment; at_end = trial.at-end }

@@ -1,6 +1,0 @@
-use Rattle.cbt_sim.specs.Adding.{AddsCleaners}
-use Rattle.cbt_sim.proofs.crew.add_cleaners.Given as goal
-
--- so many cleaners were added
-abbrev pub invariant-loop-k : goal.invariant-loop-k
-invariant-loop-k l = AddsCleaners l.script l.k l.fn.workers l.workers

@@ -1,4 +1,0 @@
-pub mod Adding
-pub mod Cases
-pub mod Crew
-pub mod Told
