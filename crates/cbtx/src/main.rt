@@ -5,7 +5,7 @@
 mod crew;
 mod headline;
 #[cfg(test)]
-mod logs;
+mod log_lines;
 mod run;
 mod still;
 mod system_clock;

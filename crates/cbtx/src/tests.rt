@@ -1,6 +1,6 @@
 //! What no case of `scripts/` shows: the events and logs of runs, and streams that fail.
 
-use crate::logs::logged;
+use crate::log_lines::logged;
 use crate::still::{Ran, still};
 use cbt_base::{List, NoMemory, StepClock, Text};
 use cbt_model::{Event, Fate, Step};
