@@ -1,0 +1,6 @@
+pub mod Rules
+pub mod Reading
+pub mod Walking
+pub mod Agreeing
+pub mod Taken
+pub mod HistoryTaken
