@@ -1,0 +1,5 @@
+pub mod NameLists
+pub mod Steps
+pub mod Replies
+pub mod Events
+pub mod Histories
