@@ -36,4 +36,4 @@ history_taken words m answer no_end reads set unset =
     let taken = takes history_options words m no_end reads in
     ap (option_map (was_given (codes "history"))) taken.is
     ∙ ap (λ t. Some t) (sym (flag_is (found_of m) (codes "history") (was_given (codes "history") taken.given) answer
-    (ap (one_of (codes "history")) taken.rows ∙ one_of-alone (codes "history") taken.given (taken.sound (codes "history") refl)) set unset))
+    (ap (one_of (codes "history")) taken.rows ∙ one_of-alone (codes "history") taken.given (taken.sound (codes "history") alone refl)) set unset))

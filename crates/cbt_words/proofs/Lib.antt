@@ -4,3 +4,5 @@ pub mod Walking
 pub mod Agreeing
 pub mod Taken
 pub mod HistoryTaken
+pub mod GenTaken
+pub mod Ranges

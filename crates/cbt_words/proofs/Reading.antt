@@ -1,5 +1,5 @@
 -- What the reading of options keeps, and words that are no numbers.
-use Rattle.std.proofs.Common.{◌≡◌, ◌∙◌, ℕ, Bool, cond, true, false, ◌&&◌, ◌||◌, refl, sym, ap, subst, take, drop, codes, List, [], ◌∷◌, ◌++◌, Option, Some, None, true≢false, eqb-true, nat_eq}
+use Rattle.std.proofs.Common.{◌≡◌, ◌∙◌, ℕ, Bool, cond, true, false, ◌&&◌, ◌||◌, refl, sym, ap, subst, take, drop, codes, List, [], ◌∷◌, ◌++◌, Option, Some, None, is_some, true≢false, eqb-true, nat_eq}
 use Rattle.std.specs.Prelude.{find, option_and_then}
 use Rattle.std.specs.Option.{option_map_or, option_or}
 use Rattle.std.specs.List.{list_any}
@@ -46,27 +46,34 @@ value-new name value given new own =
 
 -- ---- what is kept
 
+-- an option that was given has a value where its kind has one
+abbrev pub Fits : Option (Word × Option Word) → Kind → Type 0
+Fits None kind = Unit {0}
+Fits (Some g) alone = g.1 ≡ None
+Fits (Some g) valued = is_some g.1 ≡ true
+
+abbrev pub found_given : Word → Given → Option (Word × Option Word)
+found_given name given = find (λ g. bytes_eq g.0 name) given
+
 module _ (options : Options) where
-  -- an option that stands alone has no value
   abbrev pub IsSound : Given → Type 0
-  IsSound given = (name : Word) → option_named name options ≡ Some (name, alone) → value_of name given ≡ None
+  IsSound given = (name : Word) (kind : Kind) → option_named name options ≡ Some (name, kind) → Fits (found_given name given) kind
 
   pub none_sound : IsSound []
-  none_sound name is = refl
+  none_sound name kind is = tt
 
   pub more_sound : (given : Given) (name : Word) (kind : Kind) (value : Option Word) → IsSound given → option_named name options ≡ Some (name, kind)
-      → (kind ≡ alone → value ≡ None) → IsSound (given ++ (name, value) ∷ [])
-  more_sound given name kind value sound known fits other is =
-      value_of-append other name value given ∙ go (find (λ g. bytes_eq g.0 other) given) (sound other is) (bytes_eq name other) refl
+      → Fits (Some (name, value)) kind → IsSound (given ++ (name, value) ∷ [])
+  more_sound given name kind value sound known fits other of is =
+      subst (λ o. Fits o of) (sym (find-append (λ g. bytes_eq g.0 other) given ((name, value) ∷ []))) (go (found_given other given) (sound other of is) (bytes_eq name other) refl)
     where
-      go : (o : Option (Word × Option Word)) → value_first o ≡ None → (t : Bool) → bytes_eq name other ≡ t
-          → value_first (option_or o (cond t (Some (name, value)) None)) ≡ None
+      go : (o : Option (Word × Option Word)) → Fits o of → (t : Bool) → bytes_eq name other ≡ t → Fits (option_or o (cond t (Some (name, value)) None)) of
       go (Some g) e t is-t = e
-      go None e false is-t = refl
+      go None e false is-t = tt
       go None e true is-t =
           let same : name ≡ other = same_name name other is-t in
-          let both : Some (name, kind) ≡ Some (other, alone) = sym known ∙ ap (λ n. option_named n options) same ∙ is in
-          fits (ap (λ o. option_map_or (λ (p : Word × Kind). p.1) o alone) both)
+          let both : Some (name, kind) ≡ Some (other, of) = sym known ∙ ap (λ n. option_named n options) same ∙ is in
+          subst (Fits (Some (name, value))) (ap (λ o. option_map_or (λ (p : Word × Kind). p.1) o alone) both) fits
 
   -- an option's value is no number
   pub record Bad (given : Given) : Type 0 where

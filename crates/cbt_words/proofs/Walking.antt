@@ -14,7 +14,7 @@ use Rattle.clap.specs.declared.parser.matches.ValueSource.TheVariants.{CommandLi
 use Rattle.cbt_lex.specs.Decimals.{number_of}
 use Rattle.cbt_words.specs.Options.{Given, Kind, Options, Reading, Word, alone, use_met, valued, was_given, with_given, word_met}
 use Rattle.cbt_words.proofs.Rules.{built_rule, by_id, by_index, by_long, by_short, found_again, has_row-given, option_named, own_name, row_for, rows_for, rules, with_values-new}
-use Rattle.cbt_words.proofs.Reading.{Bad, IsSound, long_met, long_number, more_sound, short_number, value-new, word_met-long}
+use Rattle.cbt_words.proofs.Reading.{Bad, Fits, IsSound, long_met, long_number, more_sound, short_number, value-new, word_met-long}
 
 -- ---- kinds of error
 
@@ -162,7 +162,7 @@ module _ (options : Options) where
 
   -- one more option is held
   held_more : (given : Given) (name : Word) (kind : Kind) (v : Option Word) (h : Held) (w : Walk) (rows : List Row) (ks : Kinds) → Holds given h → IsSound options given
-      → option_named name options ≡ Some (name, kind) → (kind ≡ alone → v ≡ None)
+      → option_named name options ≡ Some (name, kind) → Fits (Some (name, v)) kind
       → w ≡ idle_at (record h { rows = rows; pending = None })
       → (has_row name (settled_rows h) ≡ false → rows ≡ settled_rows h ++ row_for (name, v) ∷ [])
       → ks ≡ cond (has_row name (settled_rows h)) (ArgumentConflict ∷ []) []
@@ -188,11 +188,11 @@ module _ (options : Options) where
       → option_named name options ≡ Some (name, kind)
       → Steps (fault_by (Some (built_rule (name, kind))) v word h) (walk_by (Some (built_rule (name, kind))) v word h) (use_met given name kind v)
   known_steps given h name alone None word holds sound known =
-      held_more given name alone None h _ (used (built_rule (name, alone)) [] (settled_rows h)) _ holds sound known (λ e. refl) refl (used-alone name (settled_rows h))
+      held_more given name alone None h _ (used (built_rule (name, alone)) [] (settled_rows h)) _ holds sound known refl refl (used-alone name (settled_rows h))
       (or_else-nil _ ∙ ap (λ ks. or_else ks (use_fault false (built_rule (name, alone)) [] (settled_rows h))) holds.passes ∙ use_fault-alone name (settled_rows h))
   known_steps given h name alone (Some text) word holds sound known = tt
   known_steps given h name valued (Some text) word holds sound known =
-      held_more given name valued (Some text) h _ (used (built_rule (name, valued)) (text ∷ []) (settled_rows h)) _ holds sound known (λ e. absurd (cc)) refl (used-valued name text (settled_rows h))
+      held_more given name valued (Some text) h _ (used (built_rule (name, valued)) (text ∷ []) (settled_rows h)) _ holds sound known refl refl (used-valued name text (settled_rows h))
       (or_else-nil _ ∙ ap (λ ks. or_else ks (use_fault false (built_rule (name, valued)) (text ∷ []) (settled_rows h))) holds.passes ∙ use_fault-valued name text (settled_rows h))
   known_steps given h name valued None word holds sound known =
       subst (λ k. Steps k (walk_by (Some (built_rule (name, valued))) None word h) (Some (given, Some name))) (sym (or_else-nil _ ∙ holds.passes)) (
@@ -305,7 +305,7 @@ module _ (options : Options) where
                 ∙ sym (map-append row_for given ((name, Some word) ∷ []));
             skip = refl;
           },
-          more_sound options given name valued (Some word) sound known (λ e. absurd (cc)),
+          more_sound options given name valued (Some word) sound known refl,
         )
     value_steps ks w word (inr (fails, no_number)) sound = go (was_given name given) refl
       where

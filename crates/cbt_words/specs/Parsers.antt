@@ -1,5 +1,5 @@
 -- What clap is asked: the command that has some options, and what it is that its matches are right.
-use Rattle.std.specs.Prelude.{◌≡◌, true, List, [], map, Option, Some, None, codes}
+use Rattle.std.specs.Prelude.{◌≡◌, Bool, true, if◌then◌else◌, List, [], map, Option, Some, None, codes}
 use Rattle.clap.specs.Words.{App, Rule, fault_of, found_of, matches_of, new_app, new_rule, rows_of}
 use Rattle.clap.specs.Simple.{on_top}
 use Rattle.clap.specs.declared.builder.action.ArgAction.{ArgAction}
@@ -22,6 +22,10 @@ bare_app = on_top (λ s. record s { no_binary_name = true; disable_help_flag = t
 -- the command that knows these
 abbrev pub app_with : Options → App
 app_with options = on_top (λ s. record s { rules = map rule_for options }) bare_app
+
+-- what clap keeps of an option that stands alone
+abbrev pub truth_text : Bool → Word
+truth_text t = if t then codes "true" else codes "false"
 
 -- the matches are there exactly where clap takes the words, and they are those of the words
 abbrev pub Reads : App → List Word → Option ArgMatches → Type 0

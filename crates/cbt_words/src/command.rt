@@ -1,14 +1,13 @@
 //! What the program is told to do.
 
 ghost use Rattle.std.specs.Prelude.{◌≡◌, codes, false, IfOk};
-ghost use Rattle.clap.specs.Words.{app_of};
-ghost use Rattle.cbt_words.specs.Commands.{command_of, command_in, history_in, history_options};
+ghost use Rattle.cbt_words.specs.Commands.{KeepsRanges, command_of, command_in};
 ghost use Rattle.cbt_words.specs.Options.{has_word};
-ghost use Rattle.cbt_words.specs.Parsers.{app_with};
 
-use crate::options::{bare, has_word, matches_of};
+use crate::generator::gen_in;
+use crate::history::history_in;
+use crate::options::has_word;
 use cbt_base::{NoMemory, Text};
-use clap::{Arg, ArgAction};
 use std::alloc::Global;
 
 /// What the program is told to do.
@@ -24,11 +23,30 @@ pub enum Command {
         /// Whether the history is written behind the report.
         history: bool,
     },
+    /// Makes a script from numbers.
+    Gen {
+        /// What the script is drawn from.
+        seed: u64,
+        /// How many clients it has.
+        clients: u32,
+        /// How many documents it has.
+        accounts: u32,
+        /// How many transactions each client has.
+        transfers: u32,
+        /// Whether the script is run at once, and a summary written in its place.
+        sim: bool,
+    },
 }
 
-/// The command that the words behind the program's name are, where they are one.
+/// The command that the words behind the program's name are, where they are one. Its numbers are in
+/// the ranges that a script can be made from.
+///
+/// # Errors
+///
+/// `NoMemory` where memory runs out.
 pub fn command_of(alloc: Global, words: &[Text]) -> Result<Option<Command>, NoMemory>
-    ensures { IfOk result (λ command. command ≡ command_of words.now) }
+    ensures command { IfOk result (λ command. command ≡ command_of words.now) }
+    ensures ranges { IfOk result KeepsRanges }
 {
     // clap would take what stands behind this word as it is.
     if has_word(words, "--") {
@@ -51,28 +69,9 @@ fn command_in(alloc: Global, word: &str, options: &[Text]) -> Result<Option<Comm
     } else if word == "run" {
         let history = history_in(alloc, options)?;
         Ok(history.map(|history| Command::Run { history }))
+    } else if word == "gen" {
+        gen_in(alloc, options)
     } else {
         Ok(None)
     }
-}
-
-// Whether `--history` is given, where the options are at most that.
-fn history_in(alloc: Global, options: &[Text]) -> Result<Option<bool>, NoMemory>
-    requires { has_word (codes "--") options.now ≡ false }
-    ensures { IfOk result (λ history. history ≡ history_in options.now) }
-{
-    let command = history_command(alloc)?;
-    match matches_of(command, options)? {
-        Some(matches) => Ok(Some(matches.get_flag("history"))),
-        None => Ok(None),
-    }
-}
-
-fn history_command<'a>(alloc: Global) -> Result<clap::Command<'a>, NoMemory>
-    ensures { IfOk result (λ command. app_of command ≡ app_with history_options) }
-{
-    let history = Arg::new(alloc, "history")
-        .long("history")
-        .action(ArgAction::SetTrue);
-    Ok(bare(alloc).arg(history)?)
 }

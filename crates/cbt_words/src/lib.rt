@@ -2,6 +2,8 @@
 #![tactic(auto)]
 
 mod command;
+mod generator;
+mod history;
 mod options;
 
 pub use command::{Command, command_of};
