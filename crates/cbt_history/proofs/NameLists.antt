@@ -1,6 +1,6 @@
 -- Lists of names are JSON.
-use Rattle.std.proofs.Common.{◌≡◌, ℕ, zero, suc, ◌≤◌, max, true, ◌&&◌, List, [], ◌∷◌, map, IsTrue, refl, ap, ap₂, ◌∙◌, arith}
-use Rattle.serde_json.specs.Data.{Data, Items, item, depth, items_depth}
+use Rattle.std.proofs.Common.{◌≡◌, ℕ, suc, ◌≤◌, true, ◌&&◌, List, [], ◌∷◌, map, refl, ap, ap₂, ◌∙◌, arith}
+use Rattle.serde_json.specs.Data.{depth, items_depth}
 use Rattle.cbt_json.specs.declared.tree.Tree.{Tree}
 use Rattle.cbt_json.specs.declared.tree.Tree.TheVariants as tree
 use Rattle.cbt_json.specs.Rules.{IsJson, is_regular, items_are_regular}

@@ -3,3 +3,13 @@ pub mod Steps
 pub mod Replies
 pub mod Events
 pub mod Histories
+pub mod Readings
+pub mod Fields
+pub mod NamesRead
+pub mod StepForms
+pub mod StepsRead
+pub mod RepliesRead
+pub mod EventsRead
+pub mod ScriptsRead
+pub mod HistoriesRead
+pub mod Rules

@@ -1,4 +1,4 @@
-use Rattle.std.proofs.Common.{◌++◌, refl, ap, ◌∙◌, arith}
+use Rattle.std.proofs.Common.{◌++◌, refl, ap, arith}
 use Rattle.cbt_lex.specs.Lines.{lined}
 use Rattle.cbt_history.specs.Events.{event_lines}
 use Rattle.cbt_history.proofs.Lines.{opening_clock}
