@@ -1,5 +1,5 @@
 -- Sums that are held at the largest number of 64 bits, one item at a time.
-use Rattle.std.proofs.Common.{◌≡◌, ℕ, ◌+◌, ◌<◌, ◌≤◌, List, length, get_or, take, sum_by, sym, ap, ◌∙◌, arith}
+use Rattle.std.proofs.Common.{◌≡◌, ℕ, ◌+◌, ◌<◌, ◌≤◌, ◌^◌, List, length, get_or, take, sum_by, sym, ap, ◌∙◌, arith}
 use Rattle.std.proofs.lemmas.List.{take_all}
 use Rattle.std.proofs.lemmas.List.Sums.{sum_by_more}
 use Rattle.cbt_base.specs.Clock.{held}
@@ -24,3 +24,11 @@ module _ {X : Type 0} (f : X → ℕ) (base : ℕ) (xs : List X) where
   -- all items
   pub sum-whole : (i : ℕ) (sum : ℕ) → length xs ≤ i → sum ≡ held (base + sum_by f (take i xs)) → sum ≡ held (base + sum_by f xs)
   sum-whole i sum all so_far = so_far ∙ ap (λ ys. held (base + sum_by f ys)) (take_all i xs all)
+
+-- one item more, before those that are left
+pub held-before : (a b c : ℕ) → held (held (a + held b) + c) ≡ held (a + (b + c))
+held-before a b c = omega arith
+
+-- a number of 64 bits is held as it is
+pub held-small : (a : ℕ) → a < 2 ^ 64 → held a ≡ a
+held-small a small = omega arith

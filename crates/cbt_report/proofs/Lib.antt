@@ -1,3 +1,4 @@
 pub mod HeldSums
 pub mod NextLines
+pub mod Parts
 pub mod Replays

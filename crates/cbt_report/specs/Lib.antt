@@ -2,3 +2,4 @@ pub mod Cleaners
 pub mod Lines
 pub mod Outcomes
 pub mod Report
+pub mod Summary

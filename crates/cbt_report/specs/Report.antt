@@ -58,13 +58,16 @@ staged_count s docs = count_by (λ d. is_held s d.1.stage) docs
 abbrev pub dead_count : State → List (List ℕ × DocState) → ℕ
 dead_count s docs = count_by (λ d. is_dead s d.1.stage) docs
 
--- the lines on the state at the end
-abbrev pub state_lines : State → List ℕ
-state_lines s =
-    doc_lines s s.docs
-    ++ number_line (codes "staged") (staged_count s s.docs)
+-- the lines on what is not settled at the end
+abbrev pub count_lines : State → List ℕ
+count_lines s =
+    number_line (codes "staged") (staged_count s s.docs)
     ++ number_line (codes "dead") (dead_count s s.docs)
     ++ number_line (codes "entries") (length s.entries)
+
+-- the lines on the state at the end
+abbrev pub state_lines : State → List ℕ
+state_lines s = doc_lines s s.docs ++ count_lines s
 
 -- the report of a run
 abbrev pub report_text : Script → Book → List ℕ

@@ -3,7 +3,7 @@
 ghost use Rattle.std.specs.Prelude.{◌≡◌, ◌+◌, ◌-◌, ◌^◌, ◌≤◌, ◌++◌, length, IfOk, OnOk};
 ghost use Rattle.cbt_base.specs.Clock.{clock_of};
 ghost use Rattle.cbt_model.specs.View.{view};
-ghost use Rattle.cbt_report.specs.Report.{txn_line, txn_lines, client_lines, doc_line, doc_lines, is_held, is_dead, staged_count, dead_count, state_lines, report_text};
+ghost use Rattle.cbt_report.specs.Report.{txn_line, txn_lines, client_lines, doc_line, doc_lines, is_held, is_dead, staged_count, dead_count, count_lines, state_lines, report_text};
 
 use crate::cleaners::push_cleaners;
 use crate::lines::push_number_line;
@@ -83,6 +83,13 @@ fn push_state(alloc: Global, out: &mut Text, state: &State) -> Result<(), NoMemo
     ensures { OnOk result (out.new ≡ out.old ++ state_lines state.now) }
 {
     push_docs(alloc, out, state)?;
+    push_counts(out, state)
+}
+
+/// Puts lines at the end on what the state holds that is not settled.
+pub(crate) fn push_counts(out: &mut Text, state: &State) -> Result<(), NoMemory>
+    ensures { OnOk result (out.new ≡ out.old ++ count_lines state.now) }
+{
     push_number_line(out, "staged", held_docs(state) as u64)?;
     push_number_line(out, "dead", dead_docs(state) as u64)?;
     push_number_line(out, "entries", state.entries.len() as u64)
