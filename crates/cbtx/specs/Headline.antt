@@ -9,7 +9,7 @@ use Rattle.cbt_model.specs.Legal.{AreReadings}
 use Rattle.cbt_runs.specs.Ordered.{AreInTurns}
 use Rattle.cbt_script.specs.declared.script.Script.{Script}
 use Rattle.cbtx.specs.Cases.{ahead_of, case_of}
-use Rattle.cbtx.specs.declared.still.Ran.{Ran}
+use Rattle.cbtx.specs.declared.ran.Ran.{Ran}
 
 -- it is so of the script and the book of a run, where they are there
 abbrev pub WhereRan : Ran → (Script → Book → Type 0) → Type 0

@@ -1,7 +1,7 @@
 pub mod Adding
 pub mod Cases
+pub mod Commands
 pub mod Crew
 pub mod Headline
 pub mod Statuses
 pub mod Told
-pub mod Words

@@ -1,15 +1,19 @@
 -- How a run ends, by its status.
-use Rattle.std.specs.Prelude.{◌≡◌, ℕ, Bool, true, false, ◌⊎◌, List, ◌++◌, Option, Some, None, Ok, Err, codes, decimal}
+use Rattle.std.specs.Prelude.{◌≡◌, ℕ, true, ◌⊎◌, List, ◌++◌, Option, Some, None, Ok, Err, codes, decimal}
 use Rattle.std.specs.Io.KnownBytes.{Appends}
 use Rattle.cbt_streams.specs.Causes.{Rose}
 use Rattle.cbt_streams.specs.Streams.{ReadWhole, WrotePart}
 use Rattle.cbt_book.specs.declared.book.Book.{Book}
-use Rattle.cbt_report.specs.Report.{report_text}
+use Rattle.cbt_gen.specs.Generated.{generated}
 use Rattle.cbt_script.specs.declared.script.Script.{Script}
 use Rattle.cbt_script.specs.Causes.{cause_word}
+use Rattle.cbt_script.specs.Printed.{script_text}
 use Rattle.cbt_script.specs.Reading.{script_of}
 use Rattle.cbt_script.specs.declared.cause.Bad.{Bad}
 use Rattle.cbt_script.specs.declared.cause.ScriptFault.TheVariants as fault
+use Rattle.cbt_words.specs.declared.command.Command.{Command}
+use Rattle.cbt_words.specs.declared.command.Command.TheVariants.{Sim, Run, Gen}
+use Rattle.cbtx.specs.Commands.{hands_back, is_usage, reads, runs, told_text}
 
 -- the most bytes that an input has
 abbrev pub max_input : ℕ
@@ -23,9 +27,9 @@ bad_line bad = codes "script refused: line " ++ decimal bad.line ++ codes ": " +
 abbrev pub usage_line : List ℕ
 usage_line = codes "usage: cbtx sim [--history] | run [--history] | gen --seed N [--clients N] [--accounts N] [--transfers N] [--sim]\n"
 
--- a text was written whole, or the sink failed
-abbrev pub IsWritten : ℕ → ℕ → Type 0
-IsWritten status whole = (status ≡ whole) ⊎ (status ≡ 4)
+-- a text was written whole, the sink failed, or memory ran out before
+abbrev pub IsEnd : ℕ → ℕ → Type 0
+IsEnd status whole = (status ≡ whole) ⊎ (status ≡ 4) ⊎ (status ≡ 5)
 
 -- the input was read to its end and is no script, and this text is the line on it
 pub record Refuses (left left' : Option (List ℕ)) (text : List ℕ) : Type 0 where
@@ -47,20 +51,35 @@ pub record IsScriptRead (left left' : Option (List ℕ)) (script : Script) : Typ
   pub read : ReadWhole left left' input
   pub is : script_of input ≡ Ok script
 
--- the script ran, and the report on its book was written
-pub record IsReported (taken taken' : Option (List ℕ)) (script : Option Script) (book : Option Book) : Type 0 where
+-- the script is the one that a command is about: the one that was read, or the one that is drawn
+abbrev pub IsScriptOf : Option Command → (left left' : Option (List ℕ)) → Script → Type 0
+IsScriptOf None left left' script = ⊥
+IsScriptOf (Some (Run history)) left left' script = ⊥
+IsScriptOf (Some (Sim history)) left left' script = IsScriptRead left left' script
+IsScriptOf (Some (Gen seed clients accounts transfers sim)) left left' script = script ≡ generated seed clients accounts transfers
+
+-- the script ran, and what the command tells of its run was written
+pub record IsReported (command : Option Command) (taken taken' : Option (List ℕ)) (script : Option Script) (book : Option Book) : Type 0 where
   pub the_script : Script
   pub the_book : Book
   pub script_is : script ≡ Some the_script
   pub book_is : book ≡ Some the_book
-  pub written : Appends taken taken' (report_text the_script the_book)
+  pub written : Appends taken taken' (told_text command the_script the_book)
 
--- the text that is due: the usage line on words that are no command, the report where a script ran, and else the line on a
--- refused input
-pub data IsDue (sim : Bool) (left left' : Option (List ℕ)) (script : Option Script) (book : Option Book) (text : List ℕ) : Type 0 where
-  is_usage : sim ≡ false → text ≡ usage_line → IsDue sim left left' script book text
-  is_report : sim ≡ true → (s : Script) → (b : Book) → script ≡ Some s → book ≡ Some b → text ≡ report_text s b → IsDue sim left left' script book text
-  is_refusal : sim ≡ true → script ≡ None → Refuses left left' text → IsDue sim left left' script book text
+-- the script was drawn, and its text was written
+pub record IsDrawn (taken taken' : Option (List ℕ)) (script : Option Script) : Type 0 where
+  pub the_script : Script
+  pub script_is : script ≡ Some the_script
+  pub written : Appends taken taken' (script_text the_script)
+
+-- the text that is due: the usage line on words that are no command, what a command tells of a run, a script that was drawn, and else the
+-- line on a refused input
+pub data IsDue (command : Option Command) (left left' : Option (List ℕ)) (script : Option Script) (book : Option Book) (text : List ℕ) : Type 0 where
+  is_usage_line : is_usage command ≡ true → text ≡ usage_line → IsDue command left left' script book text
+  is_told : runs command ≡ true → (s : Script) → (b : Book) → script ≡ Some s → book ≡ Some b → text ≡ told_text command s b
+      → IsDue command left left' script book text
+  is_script : hands_back command ≡ true → (s : Script) → script ≡ Some s → text ≡ script_text s → IsDue command left left' script book text
+  is_refusal : reads command ≡ true → script ≡ None → Refuses left left' text → IsDue command left left' script book text
 
 -- the sink failed, and a front of the text was written
 pub record IsCut (taken taken' : Option (List ℕ)) (faults faults' : ℕ) (text : List ℕ) : Type 0 where
@@ -68,7 +87,7 @@ pub record IsCut (taken taken' : Option (List ℕ)) (faults faults' : ℕ) (text
   pub rose : Rose faults faults'
 
 -- the sink failed, and a front of the text that was due was written
-pub record IsCutOff (sim : Bool) (left left' taken taken' : Option (List ℕ)) (faults faults' : ℕ) (script : Option Script) (book : Option Book) : Type 0 where
+pub record IsCutOff (command : Option Command) (left left' taken taken' : Option (List ℕ)) (faults faults' : ℕ) (script : Option Script) (book : Option Book) : Type 0 where
   pub text : List ℕ
-  pub due : IsDue sim left left' script book text
+  pub due : IsDue command left left' script book text
   pub cut : IsCut taken taken' faults faults' text

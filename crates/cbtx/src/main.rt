@@ -2,17 +2,19 @@
 //! what happened.
 #![tactic(auto)]
 
+mod commands;
 mod crew;
 mod headline;
 #[cfg(test)]
 mod log_lines;
+mod ran;
 mod run;
 mod still;
 mod system_clock;
 #[cfg(test)]
 mod tests;
+mod texts;
 mod told;
-mod words;
 mod workers;
 
 use cbt_base::{List, NoMemory, Text};

@@ -1,15 +1,16 @@
 //! What no case of `scripts/` shows: the events and logs of runs, and streams that fail.
 
 use crate::log_lines::logged;
-use crate::still::{Ran, still};
+use crate::ran::Ran;
+use crate::still::still;
 use cbt_base::{List, NoMemory, StepClock, Text};
 use cbt_model::{Event, Fate, Step};
 use cbt_streams::{MemSink, MemSource};
 use std::alloc::Global;
 use std::test::Fail;
 
-const ONE_REPLACE: &[u8] =
-    b"clock 1000 1\ndoc a {\"n\":1}\nclient c1\nbegin\nreplace a {\"n\":2}\ncommit\n";
+// Without a clock line, so the clock that the program is given is read.
+const ONE_REPLACE: &[u8] = b"doc a {\"n\":1}\nclient c1\nbegin\nreplace a {\"n\":2}\ncommit\n";
 
 const REPORT: &[u8] =
     b"history 6\ncommitted 1\ntxn c1 1 committed\ndoc a {\"n\":2}\nstaged 0\ndead 0\nentries 0\n";
@@ -75,7 +76,10 @@ fn run(
         5,
         List::from_slice(alloc, failing_writes)?,
     );
-    let clock = StepClock { next: 0, step: 1 };
+    let clock = StepClock {
+        next: 1000,
+        step: 1,
+    };
     let ran = still(alloc, all.as_slice(), &mut src, &mut out, clock);
     let MemSink {
         bytes,
