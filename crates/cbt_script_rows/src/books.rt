@@ -132,7 +132,13 @@ fn empty_state(alloc: Global) -> State {
     }
 }
 
-fn book_of(alloc: Global, opening: State, history: List<Event>, clients: List<ClientLog>) -> Book {
+/// A book without cleaners and marks.
+pub fn book_of(
+    alloc: Global,
+    opening: State,
+    history: List<Event>,
+    clients: List<ClientLog>,
+) -> Book {
     Book {
         kept: Kept {
             opening,

@@ -1,6 +1,6 @@
 //! Reads rows from standard input and answers each: which texts are scripts, which are refused, at
-//! which line and why, the canonical texts of what is taken, the cases of runs, and reports of books
-//! written out.
+//! which line and why, the canonical texts of what is taken, the cases of runs, reports of books
+//! written out, and history texts.
 //!
 //! Empty lines and lines that begin `#` are copied out. Of every other line the first word says what
 //! is asked (`rows.rt`), and the rest is a script in one line (`notation.rt`).
@@ -8,6 +8,7 @@
 
 mod books;
 mod cases;
+mod histories;
 mod notation;
 mod reports;
 mod rows;

@@ -1,6 +1,7 @@
 //! What is asked of a row, and its answer.
 
 use crate::cases::copied;
+use crate::histories::{told_of_events, told_of_script, told_of_whole};
 use crate::notation::{bytes_of, in_one_line};
 use crate::reports::report;
 use anyhow::Result;
@@ -31,6 +32,9 @@ pub fn answer(alloc: Global, row: &str) -> Result<String> {
         Some(("opening", notation)) => told(alloc, notation, Asked::Opening),
         Some(("case", notation)) => told(alloc, notation, Asked::Case),
         Some(("report", name)) => report(alloc, name),
+        Some(("history", notation)) => told_of_whole(alloc, notation),
+        Some(("canonical", notation)) => told_of_script(alloc, notation),
+        Some(("events", notation)) => told_of_events(alloc, notation),
         _ => Ok("no such row".to_string(alloc)?),
     }
 }
