@@ -1,0 +1,4 @@
+pub mod Walks
+pub mod SoundEntries
+pub mod Back
+pub mod Only

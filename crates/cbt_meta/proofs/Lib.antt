@@ -1,0 +1,4 @@
+pub mod Parts
+pub mod Inner
+pub mod Back
+pub mod Only

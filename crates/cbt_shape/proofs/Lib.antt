@@ -1,0 +1,11 @@
+pub mod IdNames
+pub mod IdOrder
+pub mod Behind
+pub mod Decimals
+pub mod Atrs
+pub mod Macros
+pub mod Trees
+pub mod Sound
+pub mod Known
+pub mod Steps
+pub mod FormsBack
